@@ -40,7 +40,7 @@ cube_names names (literal ∷ cube) name over h =
       | inr m ↦ cube_names names cube name parts.1 m
     ]
 
--- names that a cover is over are those of its literals at least
+-- names that a cover is over include those of its literals
 pub over_names : (names : List (List ℕ)) (cover : NamedCover) (name : List ℕ) → is_over names cover ≡ true → has (names_in cover) name ≡ true → has names name ≡ true
 over_names names [] name over h = absurd (false≢true h)
 over_names names (cube ∷ cover) name over h =
@@ -129,7 +129,7 @@ divided_reads name bit cover table other =
       ]
     ])
 
--- a divided table fits where the table does and the signal is one
+-- a divided table fits if the table does and the signal is one
 pub divided_fits : (circuit : Circuit) (name : List ℕ) (bit : Bool) (cover : NamedCover) (table : Table) → IsFitting circuit table → has (given circuit) name ≡ true → IsFitting circuit (divided name bit cover table)
 divided_fits circuit name bit cover table fits driven = record {
   live = all_from_has (λ input. has (given circuit) input ≡ true) (divided name bit cover table).inputs (λ input m.

@@ -1,4 +1,4 @@
--- How the code comes to a divided table, and to the table of a cover.
+-- The computation of a divided table, and of the table of a cover.
 use Rattle.std.proofs.Common.{◌≡◌, ℕ, ◌+◌, ◌<◌, zero, suc, Bool, true, false, not, ◌||◌, if◌then◌else◌, Option, Some, None, List, [], ◌∷◌, ◌++◌, map, length, get_or, drop, eqb, ne_eqb, nat_cmp, Ordering, Equal, sym, ap, ap₂, ◌∙◌, subst, arith, append_assoc}
 use Rattle.std.specs.Cmp.Lexicographic.{slice_cmp, nat_list_cmp_total}
 use Rattle.std.specs.Ordering.{ordering_then}
@@ -21,7 +21,7 @@ use Rattle.alg_tables.specs.Dividing.{quotient, rejoined, has_no_cube, quotient_
 use Rattle.alg_tables.proofs.Quotients.{quotient_found}
 use Rattle.alg_tables.proofs.Divisions.{joined_rows, ended_wide, both_wide}
 
--- ---- lists that are read in turn
+-- ---- lists that are read one after the other
 
 drop_next : {X : Type 0} (xs : List X) (i : ℕ) (x : X) → i < length xs → x ≡ get_or xs i x
     → drop i xs ≡ x ∷ drop (i + 1) xs
@@ -34,7 +34,7 @@ drop_next xs i x lt e = let n : suc i ≡ i + 1 = omega arith in next xs i lt e
     next (y ∷ ys) zero lt e = ap (λ z. z ∷ ys) (sym e)
     next (y ∷ ys) (suc j) lt e = next ys j (omega (arith, lt)) e
 
--- the names of one cube more
+-- the names of one more cube
 pub names_more : (cover : NamedCover) (i : ℕ) (cube read : Cube) (names more : List (List ℕ))
     → i < length cover → cube ≡ get_or cover i cube → read ≡ cube
     → more ≡ names ++ map (λ (literal : Literal). literal.name) read
@@ -82,7 +82,7 @@ ended_rows width first second bit q r q' r' start ended all read a b wide wide' 
     (subst (λ (n : ℕ). HasWidth n (map (λ row. row ++ None ∷ []) r)) (sym b)
     (ended_wide second r None wide')))
 
--- the divisor that the code makes has those rows
+-- the divisor that the program makes has those rows
 pub divisor_rows : (inputs read : List (List ℕ)) (cover : NamedCover) (divisor : Shape)
     (rows copies : List (List (Option Bool))) → read ≡ inputs → rows ≡ map (row_over read) cover
     → copies ≡ rows
@@ -122,7 +122,7 @@ undivided_stays name bit cover table e =
     (ap (λ (b : Bool). not (is_over table.inputs cover) || b) e
     ∙ or-true (not (is_over table.inputs cover)))
 
--- another one is the tidy rejoined table
+-- another one is the rejoined table in normal form
 pub turned_is : (name : List ℕ) (bit : Bool) (cover : NamedCover) (table : Table)
     → is_over table.inputs cover ≡ true
     → has_no_cube (quotient (length table.inputs) (map places_of table.rows)
@@ -171,7 +171,7 @@ module _ {R : Type 0} (table : CoverTable R) (name : List ℕ) (bit : Bool) (cov
       (ap has_no_cube (sym (quotient_named divisor q output over wide same is))
       ∙ none_of f xs q answer read long ∙ none)
 
-  -- whether the cover divides the table, as the code computes it
+  -- whether the cover divides the table, as the program computes it
   pub unread_whole : (inputs : List (List ℕ)) (answer : Bool) → answer ≡ is_over inputs cover
       → inputs ≡ table.inputs → answer ≡ false
       → (output : List ℕ) → true ≡ is_undivided cover (named output table)

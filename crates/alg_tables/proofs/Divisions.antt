@@ -44,7 +44,7 @@ or_over true b true = refl
 or_over true b false = and-false b
 or_over false b m = refl
 
--- no literal stands in both cubes at one place
+-- no column has a literal of both cubes
 abbrev pub AreApart : List (Option Bool) → List (Option Bool) → Type 0
 AreApart cube row = (i : ℕ) (bit : Bool) → get_or row i None ≡ Some bit → get_or cube i None ≡ None
 
@@ -95,7 +95,7 @@ found_match (first ∷ rows) point row m h =
       | inr n ↦ or_right (matches first point) (some_matches rows point) (found_match rows point row n h)
     ]
 
--- the products and the rows that are left match where the divided rows do
+-- the products and the rows that are left match exactly if the divided rows do
 pub parts_match : (width : ℕ) (f d q : List (List (Option Bool))) (point : List Bool) → IsQuotient width f d q
     → (some_matches (products q d) point || some_matches (others f (products q d)) point) ≡ some_matches f point
 parts_match width f d q point h = same_bits _ _ to back
@@ -202,8 +202,8 @@ module _ (name : List ℕ) (bit : Bool) (cover : NamedCover) (table : Table) whe
       (characters_wide (suc (length table.inputs)) (joined_rows bit rows_of divisor found)
       (joined_wide (length table.inputs) bit rows_of divisor found (width_of_characters (length table.inputs) table.rows wide) (rejoined_is wide)))
 
-  -- what holds of the table, and of the tidy rejoined one if the table reads all that the cover
-  -- reads, holds of the divided one
+  -- what holds of the table, and of the rejoined one in normal form if the table reads all that the
+  -- cover reads, holds of the divided one
   pub divided_either : (P : Table → Type 0) → P table → (is_over table.inputs cover ≡ true → P (tidied (rejoined name bit table divisor found))) → P (divided name bit cover table)
   unfolding divided
   divided_either P stays turns = cases (is_over table.inputs cover) (has_no_cube found) turns

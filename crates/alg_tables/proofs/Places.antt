@@ -69,7 +69,7 @@ entries_are names (other ∷ others) place different apart =
       rest,
     )
 
--- the other names without an index are those that names lack
+-- the other names without an index are those that are not among the names
 pub count-entries : (names others : List (List ℕ)) → count_new (entries names others) ≡ length (lacking names others)
 unfolding count_new
 count-entries names [] = refl

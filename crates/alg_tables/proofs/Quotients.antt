@@ -1,4 +1,4 @@
--- The quotient as a list is what weak division says it is.
+-- The quotient as a list is that of weak division.
 use Rattle.std.proofs.Common.{◌≡◌, ◌⊎◌, ℕ, ◌+◌, ◌≤◌, Bool, true, false, not, cond, Option, Some, List, [], ◌∷◌, map, filter, length, refl, sym, ap, ◌∙◌, subst, inl, inr, arith}
 use Rattle.std.specs.List.{position_from, list_all, list_any}
 use Rattle.std.proofs.lemmas.Bool.{and_parts, and_from, or_cases, or_left, or_right, not-true, not_from_false, false≢true, false_from_ne_true}
@@ -12,7 +12,7 @@ use Rattle.alg_div.proofs.Terms.{term-is, strip-apart, width-has}
 use Rattle.alg_div.proofs.Laws.{quotient-one}
 use Rattle.alg_tables.specs.Dividing.{firsts, is_made, quotient}
 
--- ---- lists: what a part of a list has, and an image
+-- ---- lists: the items of a part of a list, and of an image
 
 pub kept_has : {X : Type 0} (test : X → Bool) (xs : List X) (x : X) → Has x (filter test xs) → Has x xs × (test x ≡ true)
 kept_has test [] x m = absurd m
@@ -35,7 +35,7 @@ image_has f [] z m = absurd m
 image_has f (first ∷ xs) z m =
     elim m as (λ _. (x : _) × Has x (first ∷ xs) × (z ≡ f x)) [ inl e ↦ (first, inl refl, e) | inr n ↦ (let p = image_has f xs z n in (p.0, inr p.1, p.2)) ]
 
--- some row equals one exactly where it is among them
+-- some row is equal to one exactly if it is among them
 pub any_has : (row : List (Option Bool)) (rows : List (List (Option Bool))) → list_any (row_eq row) rows ≡ true → Has row rows
 any_has row [] h = absurd (false≢true h)
 any_has row (first ∷ rows) h =
@@ -71,7 +71,7 @@ unfolding Rises
 rises_bound low high p [] h = h
 rises_bound low high p (x ∷ xs) (i, lt, at, rest) = omega (arith, lt, rises_bound (i + 1) high p xs rest)
 
--- part of them is increasing too, and also by other positions that agree there
+-- positions in a part of them increase too, and so do other positions that agree there
 pub rises_kept : (low high : ℕ) (p q : List (Option Bool) → Option ℕ) (test : List (Option Bool) → Bool) (xs : List (List (Option Bool)))
     → ((x : List (Option Bool)) → test x ≡ true → q x ≡ p x) → Rises low high p xs → Rises low high q (filter test xs)
 unfolding Rises
@@ -137,8 +137,8 @@ module _ (width : ℕ) (f : List (List (Option Bool))) (k : List (Option Bool)) 
   makes : List (Option Bool) → Bool
   makes = is_made width f k (k ∷ ks)
 
-  -- a row that is made is the product of its cube and the first cube, and has all the products
-  -- beside it
+  -- a row that is made is the product of its cube and the first cube, and the other products of its
+  -- cube are rows too
   made_row : (row : List (Option Bool)) → makes row ≡ true → (times (cube_of row) k ≡ row) × ((other : List (Option Bool)) → Has other (k ∷ ks) → Has (times (cube_of row) other) f)
   unfolding makes cube_of
   made_row row h =

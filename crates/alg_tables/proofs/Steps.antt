@@ -1,5 +1,5 @@
--- How the code computes it: names with their indices, one after the other, and the composed table
--- with its limits.
+-- The computation: names with their indices, one after the other, and the composed table with its
+-- limits.
 use Rattle.std.proofs.Common.{◌≡◌, ℕ, ◌+◌, ◌-◌, ◌<◌, ◌≤◌, zero, suc, Bool, true, false, not, ◌&&◌, ◌||◌, cond, ltb, if◌then◌else◌, Option, Some, None, is_none, List, [], ◌∷◌, ◌++◌, length, get_or, take, map, bytes_eq, position, refl, sym, ap, ap₂, ◌∙◌, subst, arith, inl, inr, ◌⊎◌}
 use Rattle.std.specs.Option.{option_map_or}
 use Rattle.std.proofs.lemmas.Bool.{false≢true, lt-ltb, le-ltb, ltb-true, or_left, or_right, or_from, false_from_ne_true}
@@ -23,7 +23,7 @@ use Rattle.alg_tables.proofs.Places.{IsFound, found, entries_are, length-joined}
 use Rattle.alg_tables.proofs.Taken.{has_at}
 use Rattle.sis_base.specs.declared.limits.TheConstants.{MAX_INPUTS}
 
--- one name more in the set
+-- one more name in the set
 not_before : (names : List (List ℕ)) (i : ℕ) → all_different names ≡ true → i < length names → has (take i names) (get_or names i []) ≡ false
 not_before [] i different lt = absurd (omega (arith, lt))
 not_before (first ∷ names) zero different lt = refl
@@ -44,7 +44,7 @@ set_more names keys made i name copy different lt at same so_far is =
     is ∙ ap (λ (b : Bool). if b then keys else keys ++ copy ∷ []) (ap₂ has so_far own ∙ not_before names i different lt)
     ∙ ap₂ (λ (xs : List (List ℕ)) (x : List ℕ). xs ++ x ∷ []) so_far own ∙ sym (take_more names i [] lt)
 
--- one of the other names more
+-- one more of the other names
 entry_read : (names others : List (List ℕ)) (i : ℕ) → i < length others → is_none (get_or (entries names others) i None) ≡ not (has names (get_or others i []))
 entry_read names others i lt =
     ap (λ (o : Option ℕ). is_none o) (get_or-map (λ (name : List ℕ). position (bytes_eq name) names) others i [] None lt)
@@ -164,7 +164,7 @@ refused_none list_limit row_limit place width made inner outer output short is l
     ∙ ap (λ (n : ℕ). if ltb MAX_INPUTS n then Some (TooWide n) else None) (made_wide made place width inner outer output is long)
     ∙ ap (λ (b : Bool). if b then Some (TooWide width) else None) (le-ltb MAX_INPUTS width narrow)
 
--- where the table reads the signal, and where it does not
+-- the column in which the table reads the signal, and no column if it does not
 pub place_read : (names : List (List ℕ)) (name : List ℕ) (place : ℕ) → position (bytes_eq name) names ≡ Some place → (place < length names) × (get_or names place [] ≡ name)
 place_read names name place at = let f = subst (IsFound names name) at (found names name) in (f.0, f.1)
 

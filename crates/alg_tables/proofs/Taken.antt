@@ -1,4 +1,4 @@
--- A table into which another one was eliminated: the result, and how the code computes it.
+-- A table into which another one was eliminated: the result, and its computation.
 use Rattle.std.proofs.Common.{◌≡◌, ℕ, ◌<◌, zero, suc, Bool, true, false, not, cond, Option, Some, None, List, [], ◌∷◌, ◌++◌, length, get_or, take, drop, map, bytes_eq, position, refl, sym, ap, ◌∙◌, subst, arith, inl, inr, ◌⊎◌}
 use Rattle.std.specs.Option.{option_map_or}
 use Rattle.std.proofs.lemmas.Bool.{false≢true, or_left, or_cases}
@@ -19,8 +19,8 @@ use Rattle.alg_tables.specs.Taking.{shape_of, entries, lacking, joined, composed
 use Rattle.alg_tables.proofs.Places.{IsFound, found, length-joined}
 use Rattle.alg_tables.proofs.Values.{split_at, composed_value}
 
--- what holds of the tidy composition if the signal is read, and of the table itself if it is not,
--- holds of the result
+-- what holds of the composition in normal form if the signal is read, and of the table itself if it
+-- is not, holds of the result
 pub taken_either : (P : Table → Type 0) (inner outer : Table) → ((place : ℕ) → place < length outer.inputs → get_or outer.inputs place [] ≡ inner.output → P (tidied (composed_at place inner outer)))
     → (has outer.inputs inner.output ≡ false → P outer) → P (composed_into inner outer)
 unfolding composed_into
@@ -127,14 +127,14 @@ taken_unread inner outer once apart =
     ∙ tidied_reads (composed_at place inner outer) inner.output h)))
     (λ unread. unread)
 
--- where it is not read, nothing changes
+-- a table that does not read the signal does not change
 pub taken_apart : (inner outer : Table) → has outer.inputs inner.output ≡ false → composed_into inner outer ≡ outer
 taken_apart inner outer apart =
     taken_either (λ (made : Table). made ≡ outer) inner outer
     (λ place lt at. absurd (false≢true (sym apart ∙ subst (λ (n : List ℕ). has outer.inputs n ≡ true) at (has_at outer.inputs place lt))))
     (λ unread. refl)
 
--- the value stays where the signal has the inner table's value
+-- the value stays if the signal has the inner table's value
 pub taken_value : (inner outer : Table) (value : List ℕ → Bool) → IsShaped inner → IsShaped outer → all_different inner.inputs ≡ true → has inner.inputs inner.output ≡ false
     → value inner.output ≡ driven_value (Some inner) value → driven_value (Some (composed_into inner outer)) value ≡ driven_value (Some outer) value
 taken_value inner outer value inner_shaped outer_shaped once apart is =

@@ -152,8 +152,7 @@ inner_values value place names others lt are =
     (ap (drop place) (joined_values value place names others)
     ∙ back_dropped (map value (take place names)) (map value (lacking names others) ++ map value (drop (suc place) names)) place (front_long value place names lt))
 
--- the composed table has the outer table's value where the replaced signal has the inner table's
--- value
+-- the composed table has the outer table's value if the replaced signal has the inner table's value
 pub composed_value : (place : ℕ) (inner outer : Table) (value : List ℕ → Bool) → IsWide inner → IsWide outer → all_different inner.inputs ≡ true → place < length outer.inputs
     → has inner.inputs (get_or outer.inputs place []) ≡ false → value (get_or outer.inputs place []) ≡ driven_value (Some inner) value
     → driven_value (Some (composed_at place inner outer)) value ≡ driven_value (Some outer) value

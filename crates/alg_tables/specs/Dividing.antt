@@ -62,15 +62,15 @@ quotient_by cover table =
 abbrev pub is_undivided : NamedCover → Table → Bool
 is_undivided cover table = not (is_over table.inputs cover) || has_no_cube (quotient_by cover table)
 
--- a table divided by a cover, which the literal of a signal then replaces: the tidy rejoined table;
--- the table itself if the cover does not divide it
+-- a table divided by a cover, which the literal of a signal then replaces: the rejoined table in
+-- normal form; the table itself if the cover does not divide it
 unfoldable pub divided : List ℕ → Bool → NamedCover → Table → Table
 divided name bit cover table =
     if is_undivided cover table then table
     else tidied (rejoined name bit table (map (row_over table.inputs) cover)
     (quotient_by cover table))
 
--- the names of a cover, sorted byte for byte, each once
+-- the names of a cover, sorted byte by byte, each once
 abbrev pub sorted_names : NamedCover → List (List ℕ)
 sorted_names cover = sorted (slice_cmp nat_cmp) (names_in cover)
 

@@ -36,15 +36,15 @@ joined place names others = take place names ++ (lacking names others ++ drop (s
 abbrev pub read_place : Table → Table → Option ℕ
 read_place inner outer = position (bytes_eq inner.output) outer.inputs
 
--- a table with the inner table composed in place of an input; not tidied yet
+-- a table with the inner table composed in place of an input; not yet in normal form
 unfoldable pub composed_at : ℕ → Table → Table → Table
 composed_at place inner outer = record outer {
   inputs = joined place outer.inputs inner.inputs;
   rows = map characters_of (composition (shape_of outer) place (shape_of inner) inner.phase (entries outer.inputs inner.inputs)).rows;
 }
 
--- the table that results when another one is eliminated into a table: the tidy composition; a table
--- that does not read it stays as it is
+-- the table that results if another one is eliminated into a table: the composition in normal form;
+-- a table that does not read it stays as it is
 unfoldable pub composed_into : Table → Table → Table
 composed_into inner outer = option_map_or (λ place. tidied (composed_at place inner outer)) (read_place inner outer) outer
 

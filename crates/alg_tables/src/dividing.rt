@@ -3,9 +3,9 @@
 //! Source: Brayton, Rudell, Sangiovanni-Vincentelli and Wang, "MIS: A Multiple-Level Logic
 //! Optimization System" (1987): weak division and resubstitution. `divided_table` divides the
 //! table's rows by the cover over the table's inputs (alg_div), multiplies the quotient by the
-//! literal of a signal, the new last input, adds the remainder and tidies. It returns `None`
-//! exactly if the cover does not divide the table. The rows of a table must be over its inputs;
-//! those of the result are.
+//! literal of a signal, the new last input, adds the remainder and brings the result to normal
+//! form. It returns `None` exactly if the cover does not divide the table. The rows of a table must
+//! be over its inputs; those of the result are.
 
 ghost use Rattle.std.specs.Prelude.{◌≡◌, ℕ, suc, Bool, true, Option, Some, None, is_none, List, [], ◌∷◌, ◌++◌, length, map, IfOk, IfSome, OnOk};
 ghost use Rattle.std.specs.List.{list_all};
@@ -27,7 +27,7 @@ use sis_base::{Copied, Sequence};
 use std::alloc::{AllocError, Global};
 use std::cmp::Ordering;
 
-// Whether all literals of a cube are of names.
+// Whether all literals of a cube have one of some names.
 fn is_cube_over(names: &[Name], cube: &[Literal]) -> bool
     ensures { result ≡ list_all (λ (literal : Literal). has names.now literal.name) cube.now }
 {
@@ -39,7 +39,7 @@ fn is_cube_over(names: &[Name], cube: &[Literal]) -> bool
     true
 }
 
-// Whether all literals of a cover are of the names.
+// Whether all literals of a cover have one of some names.
 fn is_cover_over(names: &[Name], cover: &[Cube]) -> bool
     ensures { result ≡ is_over names.now cover.now }
 {
@@ -108,8 +108,8 @@ fn ended_cover<R: Row>(
     Ok(cover)
 }
 
-// A table with the rows of a quotient and a remainder, and a signal as its last input; not tidied
-// yet.
+// A table with the rows of a quotient and a remainder, and a signal as its last input; not yet in
+// normal form.
 fn rejoined_table<R: Row>(
     alloc: Global,
     table: &CoverTable<R>,
@@ -138,9 +138,9 @@ fn rejoined_table<R: Row>(
 }
 
 /// The table divided by a cover, which the literal of `name` then replaces, the positive one if
-/// `bit` is true: the quotient's cubes with that literal and the remainder's rows, tidy. `None`
-/// exactly if the cover does not divide it, so that it stays as it is: it does not read all that
-/// the cover reads, or the quotient has no cube.
+/// `bit` is true: the quotient's cubes with that literal and the remainder's rows, in normal form.
+/// `None` exactly if the cover does not divide it, so that it stays as it is: it does not read all
+/// that the cover reads, or the quotient has no cube.
 pub fn divided_table<R: Row>(
     alloc: Global,
     table: &CoverTable<R>,
@@ -194,7 +194,7 @@ fn all_names(alloc: Global, cover: &[Cube]) -> Result<Vec<Name>, AllocError>
     Ok(names)
 }
 
-// The order of two names, byte for byte.
+// The order of two names, byte by byte.
 fn compare_names(one: &Name, other: &Name) -> Ordering
     ensures { result ≡ slice_cmp nat_cmp one.now other.now }
 {

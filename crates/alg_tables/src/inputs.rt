@@ -2,8 +2,8 @@
 //!
 //! Up to 32 names are searched one by one, more are looked up in a hash set; both ways give the
 //! first index. `joined_names` gives the inputs of a composition (De Micheli, "Synthesis and
-//! Optimization of Digital Circuits", chapter 8, elimination): the outer inputs, in which the new
-//! inputs of the inner table replace its signal.
+//! Optimization of Digital Circuits", chapter 8, elimination): those of the outer table, with the
+//! inputs of the inner table that it lacks instead of the inner table's signal.
 
 ghost use Rattle.std.specs.Prelude.{◌≡◌, ℕ, ◌<◌, true, not, List, [], ◌∷◌, ◌++◌, length, map, take, position, bytes_eq, is_none, if◌then◌else◌, IfOk, OnOk};
 ghost use Rattle.circuit_model.specs.Names.{has, all_different};

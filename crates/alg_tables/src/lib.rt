@@ -8,12 +8,13 @@
 //! inputs.
 //!
 //! `specs/Taking.antt` defines the table that a fanout becomes, and when it is refused. Promised:
-//! exactly that table, tidy; a refusal exactly if a list of rows or the result is too long, or has
-//! too many inputs; and that the new table has the old one's value wherever the inner table's
-//! signal has its table's value (`laws`). `specs/Dividing.antt` defines the divided table and the
-//! table of a cover. Promised: exactly these tables; that the divided table has the old one's value
-//! wherever the signal's literal has the cover's value; and that the cover's table is split off the
-//! tables that are divided by it, so that circuits stay the same (`laws`).
+//! exactly that table, in normal form; a refusal other than a lack of memory only if a list of rows
+//! or the result is too long, or has too many inputs, and no table then; and that the new table has
+//! the old one's value wherever the inner table's signal has its table's value (`laws`).
+//! `specs/Dividing.antt` defines the divided table and the table of a cover. Promised: exactly
+//! these tables; that the divided table has the old one's value wherever the signal's literal has
+//! the cover's value; and that the cover's table is split off the tables that are divided by it
+//! (`laws`), which is what circuit_laws asks of a step that keeps the values of signals.
 #![tactic(auto)]
 
 mod dividing;

@@ -2,10 +2,11 @@
 //!
 //! Source: SIS report (UCB/ERL M92/41), `eliminate` and `collapse`; De Micheli, "Synthesis and
 //! Optimization of Digital Circuits", chapter 8 (elimination). `compose_into` composes the covers
-//! (cover_ops), joins the inputs and tidies the result. It refuses exactly if a list of rows that
-//! is needed, or the result, is longer than its limit, or the result has more than `MAX_INPUTS`
-//! inputs; rows and inputs are counted before the result is tidied. Callers rely on `laws`: the
-//! fanout keeps its value, and no longer reads the eliminated signal.
+//! (cover_ops), joins the inputs and brings the result to normal form. It refuses if a list of rows
+//! that is needed, or the result, is longer than its limit, or the result has more than
+//! `MAX_INPUTS` inputs, and else only if memory runs out; rows and inputs are counted before the
+//! result is in normal form. Callers rely on `laws`: the fanout keeps its value, and no longer
+//! reads the eliminated signal.
 
 ghost use Rattle.std.specs.Prelude.{◌≡◌, ◌<◌, ℕ, Bool, true, false, Some, None, List, [], length, position, bytes_eq, slice_index_or, IfOk, IfErr, OnOk, ◌⊎◌};
 ghost use Rattle.circuit_model.specs.Names.{has, all_different};
@@ -94,7 +95,7 @@ fn composed_cover<R: Row>(
     }
 }
 
-// A table with another one composed in place of an input; not tidied yet.
+// A table with another one composed in place of an input; not yet in normal form.
 fn composed<R: Row>(
     alloc: Global,
     place: usize,
@@ -142,7 +143,7 @@ fn composed<R: Row>(
     })
 }
 
-// A table with another one composed in place of an input, tidied.
+// A table with another one composed in place of an input, in normal form.
 fn taken_at<R: Row>(
     alloc: Global,
     place: usize,
@@ -175,14 +176,14 @@ fn taken_at<R: Row>(
     Ok(tidy_table)
 }
 
-/// The table that `outer` becomes when `inner`, which drives `name`, is eliminated into it: the
-/// inner function replaces `name`, the inputs that `outer` lacks take its column, in order, and the
-/// result is tidied. A table that does not read `name` stays as it is.
+/// The table that `outer` becomes if `inner`, which drives `name`, is eliminated into it: the inner
+/// function replaces `name`, the inputs that `outer` lacks replace its column, in order, and the
+/// result is brought to normal form. A table that does not read `name` stays as it is.
 ///
 /// `CubeLimit` if the result has more than `row_limit` rows, or if a row needs the value that the
 /// inner table's rows do not give, and its list for that value has more than `list_limit` rows.
 /// Else `TooWide` with the number of its inputs if that is more than 1,000. Both are counted before
-/// the result is tidied.
+/// the result is in normal form.
 pub fn compose_into<R: Row>(
     alloc: Global,
     name: &Name,

@@ -22,14 +22,14 @@ literal_of_none (literal ∷ cube) name h =
     let away : bytes_eq literal.name name ≡ false = false_from_ne_true (bytes_eq literal.name name) (λ e. false≢true (sym parts.0 ∙ (bytes_eq-Decides name literal.name).1 (sym ((bytes_eq-Decides literal.name name).0 e)))) in
     literal_of_cons literal cube name ∙ ap (λ (b : Bool). cond b (Some literal.bit) (literal_of cube name)) away ∙ literal_of_none cube name parts.1
 
--- lists of what a function gives at names agree where the functions do
+-- the images of names are the same under functions that agree on the names
 map_where : (f g : List ℕ → Option Bool) (names : List (List ℕ)) → ((name : List ℕ) → has names name ≡ true → f name ≡ g name) → map f names ≡ map g names
 map_where f g [] h = refl
 map_where f g (name ∷ names) h =
     ap₂ (λ (place : Option Bool) row. place ∷ row) (h name (or_left (bytes_eq name name) (has names name) ((bytes_eq-Decides name name).1 refl)))
     (map_where f g names (λ other m. h other (or_right (bytes_eq other name) (has names other) m)))
 
--- what a cube has of its first name, and of the others
+-- what a cube has for its first name, and for the others
 over_first : (name : List ℕ) (names : List (List ℕ)) (place : Option Bool) (row : List (Option Bool)) → has names name ≡ false → literal_of (cube_over (name ∷ names) (place ∷ row)) name ≡ place
 unfolding cube_over
 over_first name names None row apart = literal_of_none (cube_over names row) name (over_lacks names row name apart)
@@ -65,7 +65,7 @@ sorted_row_back names row h width = sorted_row names (cube_over names row) (over
 
 -- ---- rows of a sorted cover
 
--- what a list of images has, and what it is an image of
+-- the items of a list of images, and what they are images of
 pub map_has : {X Y : Type 0} (f : X → Y) (xs : List X) (x : X) → Has x xs → Has (f x) (map f xs)
 map_has f [] x m = absurd m
 map_has f (first ∷ xs) x m = elim m as (λ _. Has (f x) (map f (first ∷ xs))) [ inl e ↦ inl (ap f e) | inr n ↦ inr (map_has f xs x n) ]
@@ -106,11 +106,11 @@ module _ (names : List (List ℕ)) (rows : List (List (Option Bool))) where
 
 -- ---- the value of a cover over names by its rows
 
--- in each cube of a cover the names are different
+-- the names in each cube of a cover are different
 abbrev pub all_apart : NamedCover → Bool
 all_apart cover = list_all (λ (cube : Cube). all_different (names_of cube)) cover
 
--- the same, as a clause says it
+-- the same, in the form of the clause
 pub all_apart_in : (cover : NamedCover) → all_apart cover ≡ list_all (λ (cube : Cube). all_different (names_in (cube ∷ []))) cover
 all_apart_in [] = refl
 all_apart_in (cube ∷ cover) = ap₂ (λ (a b : Bool). a && b) (ap all_different (sym (append-nil (names_of cube)))) (all_apart_in cover)
@@ -124,8 +124,8 @@ rows_over_worth value names (cube ∷ cover) apart over =
     let second = and_parts (list_all (λ (literal : Literal). has names literal.name) cube) (is_over names cover) over in
     ap₂ (λ (a b : Bool). a || b) (row_over_worth value names cube first.0 second.0) (rows_over_worth value names cover first.1 second.1)
 
--- the sorted cover of rows over names has literals of these names only, and its cubes have
--- different names if those are different
+-- the sorted cover of rows over names has literals of these names only, and the names in its cubes
+-- are different if the names are different
 all_cubes_over : (names : List (List ℕ)) (rows : List (List (Option Bool))) → is_over names (map (λ row. sorted_cube (cube_over names row)) rows) ≡ true
 all_cubes_over names [] = refl
 all_cubes_over names (row ∷ rows) =

@@ -1,4 +1,4 @@
--- The names of a cube's literals: which a cube over names has, and what sorting leaves of them.
+-- The names of a cube's literals: which a cube over names has, and which remain after sorting.
 use Rattle.std.proofs.Common.{◌≡◌, ℕ, Bool, true, false, not, ◌||◌, cond, Option, Some, None, List, [], ◌∷◌, bytes_eq, Ordering, Less, Equal, Greater, refl, sym, ap, ap₂, ◌∙◌}
 use Rattle.std.specs.List.{list_all, list_any}
 use Rattle.std.proofs.lemmas.Bool.{and_parts, and_from, or_parts, or_from, or_left, or_right, not-true, not_from_false, false≢true, false_from_ne_true}
@@ -21,7 +21,7 @@ name_turned one other h = false_from_ne_true (bytes_eq other one) (λ e. false�
 
 -- ---- names of a cube over names
 
--- a cube over names has none that is not among them
+-- a cube over names has no name that is not among them
 pub over_lacks : (names : List (List ℕ)) (row : List (Option Bool)) (name : List ℕ) → has names name ≡ false → has (names_of (cube_over names row)) name ≡ false
 unfolding cube_over
 over_lacks [] row name h = refl
@@ -48,7 +48,7 @@ all_with_more first names (literal ∷ cube) h =
     let parts = and_parts (has names literal.name) (list_all (λ (literal : Literal). has names literal.name) cube) h in
     and_from _ _ (or_right (bytes_eq literal.name first) (has names literal.name) parts.0) (all_with_more first names cube parts.1)
 
--- all its literals are of the names
+-- all its literals have one of the names
 pub over_is_over : (names : List (List ℕ)) (row : List (Option Bool)) → list_all (λ (literal : Literal). has names literal.name) (cube_over names row) ≡ true
 unfolding cube_over
 over_is_over [] row = refl
@@ -86,7 +86,7 @@ put_different item (first ∷ cube) apart h =
     cases Equal rest = h
     cases Greater rest = rest
 
--- the names of a cube that are different are so in the sorted cube
+-- if the names of a cube are different, those of the sorted cube are
 pub sorted_different : (cube : Cube) → all_different (names_of cube) ≡ true → all_different (names_of (sorted_cube cube)) ≡ true
 unfolding sorted all_different
 sorted_different [] h = refl

@@ -13,7 +13,7 @@ pub record IsOrder {X : Type 0} (cmp : X → X → Ordering) : Type 0 where
   pub total : IsTotalOrder cmp
   pub same : (x y : X) → cmp x y ≡ Equal → x ≡ y
 
--- nothing is below itself
+-- no value is less than itself
 pub not_below_itself : {X : Type 0} {cmp : X → X → Ordering} → IsTotalOrder cmp → (x : X) → cmp x x ≡ Less → ⊥
 not_below_itself total x h = true≢false (sym (ap is_lt h) ∙ ap is_lt (tied_itself total x))
 

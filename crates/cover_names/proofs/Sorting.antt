@@ -44,7 +44,7 @@ module _ {X : Type 0} {cmp : X → X → Ordering} (order : IsOrder cmp) where
       cases Equal k rest = k
       cases Greater k rest = elim k as (λ _. Has x (first ∷ put_in cmp item xs)) [ inl e ↦ inl e | inr n ↦ inr (rest n) ]
 
-  -- what is sorted has just the items of the list
+  -- a sorted list has exactly the items of the list
   pub sorted_has : (xs : List X) (x : X) → Has x (sorted cmp xs) → Has x xs
   unfolding sorted
   sorted_has [] x m = m
@@ -69,7 +69,7 @@ module _ {X : Type 0} {cmp : X → X → Ordering} (order : IsOrder cmp) where
   has_above x [] h = tt
   has_above x (first ∷ xs) h = (h first (inl refl), has_above x xs (λ y m. h y (inr m)))
 
-  -- each item of a rising list is below all later ones
+  -- each item of a rising list is less than all later ones
   pub rises_head : (x : X) (xs : List X) → IsStrictlySortedBy cmp (x ∷ xs) → (y : X) → Has y xs → cmp x y ≡ Less
   unfolding IsStrictlySortedBy
   rises_head x xs h y m = above_has x xs h.0 y m
@@ -145,7 +145,7 @@ module _ {X : Type 0} {cmp : X → X → Ordering} (order : IsOrder cmp) where
             | inr n ↦ n
           ]
 
-  -- a rising list with just the items of another is that one sorted
+  -- a rising list with exactly the items of another is that one sorted
   pub sorted_is : (xs ys : List X) → IsStrictlySortedBy cmp ys → ((x : X) → Has x xs → Has x ys) → ((x : X) → Has x ys → Has x xs) → sorted cmp xs ≡ ys
   sorted_is xs ys h to back =
       rising_same (sorted cmp xs) ys (sorted_rises xs) h (λ x m. to x (sorted_has xs x m)) (λ x m. sorted_keeps xs x (back x m))
@@ -153,6 +153,6 @@ module _ {X : Type 0} {cmp : X → X → Ordering} (order : IsOrder cmp) where
   pub sorted_sorted : (xs : List X) → IsStrictlySortedBy cmp xs → sorted cmp xs ≡ xs
   sorted_sorted xs h = sorted_is xs xs h (λ x m. m) (λ x m. m)
 
-  -- lists with the same items are the same when they are sorted
+  -- lists with the same items are the same after they are sorted
   pub sorted_same : (xs ys : List X) → ((x : X) → Has x xs → Has x ys) → ((x : X) → Has x ys → Has x xs) → sorted cmp xs ≡ sorted cmp ys
   sorted_same xs ys to back = sorted_is xs (sorted cmp ys) (sorted_rises ys) (λ x m. sorted_keeps ys x (to x m)) (λ x m. back x (sorted_has ys x m))

@@ -33,14 +33,14 @@ sorted_deduped {X} {cmp} order same ties xs ys moved rises =
     is : (x y : X) → same x y ≡ true → x ≡ y
     is x y h = order.same x y (is_equal (cmp x y) (sym (ties x y) ∙ h))
 
--- what `sort_unstable_by` leaves, where each call compares by an order
+-- what `sort_unstable_by` leaves, if each call compares by an order
 pub sorted_by_calls : {X : Type 0} {cmp : X → X → Ordering} → IsTotalOrder cmp → {F : Type 0} {g : Mut F (Bor X × (Bor X × Unit {0})) Ordering} {f : F} (xs : List X)
     → IsSortedByClosure g f xs → ((a : Bor X × (Bor X × Unit {0})) (r : Ordering) (f' : F) → Called g f a r f' → (r ≡ cmp a.0.now a.1.0.now) × (f' ≡ f)) → IsSorted cmp xs
 sorted_by_calls {X} {cmp} total {F} {g} {f} xs rises calls =
     rises (λ x y. is_lt (cmp x y)) (ranks_by total (λ x. x))
     (always_returns_same g (λ a r. is_lt r ≡ is_lt (cmp a.0.now a.1.0.now)) f (λ a r f' k. (ap is_lt (calls a r f' k).0, (calls a r f' k).1)))
 
--- what is sorted contains just what the list does
+-- a sorted list contains exactly what the list does
 pub sorted_contains : {X : Type 0} {cmp : X → X → Ordering} → IsOrder cmp → (xs : List X) (x : X) → Contains (sorted cmp xs) x ↔ Contains xs x
 sorted_contains {X} {cmp} order xs x = (
   λ k. contains_has x xs (sorted_has order xs x (has_contains x (sorted cmp xs) k)),

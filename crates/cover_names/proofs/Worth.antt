@@ -92,7 +92,7 @@ cover_over_worth value names rows = sorted_cover_worth value (map (λ row. sorte
 
 -- ---- rows of cubes
 
--- the bit of a cube's first literal of a name, by its first literal
+-- the bit of a cube's first literal of a name, by the cube's first literal
 pub literal_of_cons : (literal : Literal) (cube : Cube) (name : List ℕ) → literal_of (literal ∷ cube) name ≡ cond (bytes_eq literal.name name) (Some literal.bit) (literal_of cube name)
 literal_of_cons literal cube name = cases (bytes_eq literal.name name)
   where
@@ -107,7 +107,7 @@ unfolding matches
 row_matches_worth value place_of [] = refl
 row_matches_worth value place_of (name ∷ names) = ap (λ (b : Bool). agrees (place_of name) (value name) && b) (row_matches_worth value place_of names)
 
--- where a cube is true, so is what it has of each name
+-- if a cube is true, its bit of each name agrees with the name's value
 place_agrees : (value : List ℕ → Bool) (cube : Cube) (name : List ℕ) → cube_value value cube ≡ true → agrees (literal_of cube name) (value name) ≡ true
 place_agrees value [] name h = refl
 place_agrees value (literal ∷ cube) name h =
@@ -120,7 +120,7 @@ place_agrees value (literal ∷ cube) name h =
     cases true e first rest = subst (λ (other : List ℕ). agrees (Some literal.bit) (value other) ≡ true) ((bytes_eq-Decides literal.name name).0 e) first
     cases false e first rest = rest
 
--- where a cube is true, so is its row
+-- if a cube is true, so is its row
 row_if_cube : (value : List ℕ → Bool) (names : List (List ℕ)) (cube : Cube) → cube_value value cube ≡ true → list_all (λ name. agrees (literal_of cube name) (value name)) names ≡ true
 row_if_cube value [] cube h = refl
 row_if_cube value (name ∷ names) cube h = and_from _ _ (place_agrees value cube name h) (row_if_cube value names cube h)
@@ -150,7 +150,7 @@ cube_if_places value names place_of (literal ∷ cube) stands over h =
 abbrev pub names_of : Cube → List (List ℕ)
 names_of cube = map (λ (literal : Literal). literal.name) cube
 
--- another literal before those of the names, none of them of its name
+-- another literal before those of the names, which has none of these names
 stand_behind : (literal : Literal) (whole cube : Cube) → has (names_of cube) literal.name ≡ false
     → AllByRecursion (λ (other : Literal). literal_of whole other.name ≡ Some other.bit) cube → AllByRecursion (λ (other : Literal). literal_of (literal ∷ whole) other.name ≡ Some other.bit) cube
 stand_behind literal whole [] apart stands = tt

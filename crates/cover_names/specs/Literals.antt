@@ -1,7 +1,7 @@
 -- Literals of signals by name, cubes and covers of them, and their orders. Source: Brayton, Rudell,
 -- Sangiovanni-Vincentelli and Wang, "MIS: A Multiple-Level Logic Optimization System" (1987): cubes
--- are sets of literals, and divisors are known by their cubes, whichever table has them. The orders
--- are the project's own.
+-- are sets of literals, and divisors are identified by their cubes, whichever table has them. The
+-- orders are the project's own.
 use Rattle.std.specs.Prelude.{List, [], ◌∷◌}
 use Rattle.std.specs.Ordering.{bool_cmp, nat_cmp, ordering_then}
 use Rattle.std.specs.Cmp.Lexicographic.{slice_cmp}
@@ -16,7 +16,7 @@ Cube = List Literal
 abbrev pub NamedCover : Type 0
 NamedCover = List Cube
 
--- by name, byte for byte; of one name the negative literal first
+-- by name, byte by byte; of one name the negative literal first
 abbrev pub literal_cmp : Literal → Literal → Ordering
 literal_cmp one other = ordering_then (slice_cmp nat_cmp one.name other.name) (bool_cmp one.bit other.bit)
 

@@ -1,5 +1,6 @@
-//! Laws of sorted lists, and of rows and their cubes: sorting keeps items and values, a row and its
-//! cube have the same value, and rows are recovered from their cubes.
+//! Laws of sorted lists, and of rows and their cubes, each the contract of a call that does
+//! nothing: sorting keeps items and values, a row and its cube have the same value, and rows are
+//! recovered from their cubes.
 
 ghost use Rattle.std.specs.Prelude.{◌≡◌, ◌↔◌, ◌∷◌, [], ℕ, Bool, true, List, Option, map, length};
 ghost use Rattle.std.specs.Cmp.{IsTotalOrder};
@@ -63,7 +64,7 @@ pub fn rows_come_back()
         → Contains (map (row_over names) (cover_over names rows)) row ↔ Contains rows row }
 {}
 
-/// A sorted list is strictly increasing: each item is below all later ones, and so occurs once.
+/// A sorted list is strictly increasing: each item is less than all later ones, and so occurs once.
 pub fn sorted_lists_rise()
     ensures cube { (cube : Cube) → IsStrictlySortedBy literal_cmp (sorted_cube cube) }
     ensures cover { (cover : NamedCover) → IsStrictlySortedBy cube_cmp (sorted cube_cmp cover) }

@@ -1,4 +1,4 @@
-//! Literals of signals by name, and their order: by name, byte for byte, and of one name the
+//! Literals of signals by name, and their order: by name, byte by byte, and of one name the
 //! negative literal first.
 
 use circuit_model::Name;

@@ -26,7 +26,7 @@ cost_least a b h =
     let e : (b - a) + a ≡ b = omega arith in
     subst (λ (n : ℕ). cost a ≤ cost n) e (cost_more a (b - a))
 
--- two halves cost less than the whole, with what their frame costs
+-- two halves cost less than the whole, together with the cost of their frame
 pub halves_cost : (low high whole : ℕ) → low < whole → high < whole →
     cost low + (cost high + 2) < cost whole
 halves_cost low high zero p q = absurd (omega arith)
@@ -37,7 +37,7 @@ pub push_cost : (frames : List Frame) (frame : Frame) →
     stack_cost (reverse (frames ++ frame ∷ [])) ≡ frame_cost frame + stack_cost (reverse frames)
 push_cost frames frame = rw (reverse-append frames (frame ∷ [])) refl
 
--- what is left after a pair has its low halves asked for, after its high halves are
+-- the work left after the low halves of a pair are asked for, and after its high halves are
 pub asks_falls : (frames new : List Frame) (pair asked low high : Pair) (place : ℕ) →
     new ≡ frames ++ Low pair place high ∷ [] →
     (pair ≡ asked) ⊎ ((pair.left ≡ asked.right) × (pair.right ≡ asked.left)) →

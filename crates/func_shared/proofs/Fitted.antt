@@ -1,4 +1,4 @@
--- Tables whose trees are all within a limit: they stay so where vertices are added within a tree
+-- Tables whose trees are all within a limit: they stay so if the vertices added are within a tree
 -- that is.
 use Rattle.std.proofs.Common.{◌≡◌, ℕ, zero, suc, ◌+◌, ◌<◌, ◌≤◌, true, Option, Some, None, List, [], length, inl, inr, ap, sym, ◌∙◌, subst, arith}
 use Rattle.std.specs.Option.{MatchOption, is_some}
@@ -29,7 +29,7 @@ fit_past vertices n limit past =
     size-Zero (tree_at vertices n) (tree_at-past vertices n past) in
     omega arith
 
--- what is added within a tree that fits, fits
+-- trees added within a tree that fits, fit
 pub fit_added : (old new : List Vertex) (t : Tree) (limit : ℕ) →
     AllFit old limit → Grows old new → AddsWithin old new t → size t ≤ limit → AllFit new limit
 fit_added old new t limit fit grows added fits n =
@@ -54,14 +54,14 @@ pub fit_same : (old new : List Vertex) (limit : ℕ) → AllFit old limit → Gr
 fit_same old new limit fit grows same =
     subst (λ (vs : List Vertex). AllFit vs limit) (sym (grows_same old new grows same)) fit
 
--- what is added within the tree of a number that fits, fits
+-- trees added within the tree of a number that fits, fit
 pub fit_reached : (old new : List Vertex) (t : Tree) (number limit : ℕ) →
     AllFit old limit → Grows old new → AddsWithin old new t →
     Has new number t → size (tree_at new number) ≤ limit → AllFit new limit
 fit_reached old new t number limit fit grows added has fits =
     fit_added old new t limit fit grows added (subst (λ (s : Tree). size s ≤ limit) has.1 fits)
 
--- so where the number is within the limit
+-- the same if the number is within the limit
 pub fit_low : (old new : List Vertex) (t : Tree) (number limit : ℕ) →
     AllFit old limit → Grows old new → AddsWithin old new t →
     Has new number t → IsTable new → number ≤ limit → AllFit new limit
@@ -69,7 +69,7 @@ fit_low old new t number limit fit grows added has table low =
     let small : size (tree_at new number) ≤ number = size_below_number new number table has.0 in
     fit_reached old new t number limit fit grows added has (omega arith)
 
--- so where only a variable's tree is added
+-- the same if only a variable's tree is added
 pub fit_variable : (old new : List Vertex) (place limit : ℕ) →
     1 ≤ limit → AllFit old limit → Grows old new →
     AddsWithin old new (Node place Zero One) → AllFit new limit

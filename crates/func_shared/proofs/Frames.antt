@@ -1,4 +1,4 @@
--- The stack of frames: what a step pushes on it, and that it stays right while the table grows.
+-- The stack of frames: what a step pushes on it, and that it stays right as the table grows.
 use Rattle.std.proofs.Common.{◌≡◌, ℕ, suc, ◌⊎◌, inl, inr, true, List, [], ◌∷◌, ◌++◌, reverse, refl, ap, sym, ◌∙◌, subst, arith}
 use Rattle.std.specs.Set.{is_member}
 use Rattle.std.proofs.lemmas.List.{reverse-append}
@@ -62,7 +62,7 @@ stack_push vs operation goal frames frame asked whole is e below =
     (sym (reverse-append frames (frame ∷ [])))
     (is, subst (λ (t : Tree). IsStack vs operation goal (reverse frames) t) (sym e) below)
 
--- what was right stays so while the table grows
+-- what was right stays right as the table grows
 pub numbers_grow : (old new : List Vertex) (pair : Pair) → Grows old new → AreNumbers old pair →
     AreNumbers new pair
 numbers_grow old new pair grows are = (
@@ -164,7 +164,7 @@ stack_known vs operation goal frames pair asked number table turned has stack =
     subst (λ (t : Tree). IsStack vs operation goal frames t)
     (sym (has.1 ∙ turned_made vs operation pair asked table turned)) stack
 
--- one that is not has its pair wait, and its low halves asked for
+-- for one that is not known the pair waits, and its low halves are asked for
 pub stack_asks : (vs : List Vertex) (operation : Operation) (goal : Tree) (frames new : List Frame)
     (pair asked : Pair) (place : ℕ) (low high : Pair) →
     new ≡ frames ++ Low pair place high ∷ [] → IsTable vs → IsTurned pair asked →
@@ -186,7 +186,7 @@ stack_asks vs operation goal frames new pair asked place low high e table turned
     )
     (turned_made vs operation pair asked table turned) stack)
 
--- the low halves' answer in, the high halves are asked for
+-- after the answer of the low halves the high halves are asked for
 pub stack_turns : (vs : List Vertex) (operation : Operation) (goal : Tree) (frames new : List Frame)
     (pair high : Pair) (place number : ℕ) →
     new ≡ frames ++ High pair place number ∷ [] → IsNumber vs number →
@@ -200,7 +200,7 @@ stack_turns vs operation goal frames new pair high place number e is frame stack
     (made vs operation pair)
     (frame.0, is, frame.2) refl stack)
 
--- both answers in, the joined tree's number is the frame's answer
+-- after both answers the joined tree's number is the frame's answer
 pub stack_joins : (old new : List Vertex) (operation : Operation) (goal : Tree)
     (frames : List Frame) (pair : Pair) (place low number joined_number : ℕ) →
     Grows old new → IsFrame old operation (High pair place low) (tree_at old number) →

@@ -56,7 +56,7 @@ pub number_one : (vs : List Vertex) (n : ℕ) → IsTable vs → IsNumber vs n �
     tree_at vs n ≡ One → n ≡ 1
 number_one vs n table is e = table.one n 1 is (omega arith) (e ∙ sym (tree_at-one vs))
 
--- a number that there was is there still, with the tree that it had
+-- an old number is still a number, with the tree that it had
 pub kept : (old new : List Vertex) (n : ℕ) → Grows old new → IsNumber old n →
     IsNumber new n × (tree_at new n ≡ tree_at old n)
 kept old new n grows is = (
@@ -97,7 +97,7 @@ adds_more old new s t within adds n is = elim (adds n is)
       | inr new ↦ inr (within _ new)
     ]
 
--- the trees of numbers from a least one, as many as are asked, the last number first
+-- the trees of as many numbers as are asked for, from a least one on, the last number first
 abbrev numbered : List Vertex → ℕ → ℕ → List Tree
 numbered vs least zero = []
 numbered vs least (suc count) = tree_at vs (least + count) ∷ numbered vs least count
@@ -209,7 +209,7 @@ inner_number vs n s table is m = below (suc n) n (omega arith) is m
                   (m, a, omega (arith, b, high), e)
             ]
 
--- the tree of a number is at most as large as there are vertices up to it
+-- the size of a number's tree is at most the number of vertices up to it
 size_up_to : (vs : List Vertex) (n : ℕ) → IsTable vs → IsNumber vs n → size (tree_at vs n) ≤ n - 1
 size_up_to vs n table is =
     omega (
@@ -229,7 +229,7 @@ pub size_below_number : (vs : List Vertex) (n : ℕ) → IsTable vs → IsNumber
     size (tree_at vs n) ≤ n
 size_below_number vs n table is = omega (arith, size_up_to vs n table is)
 
--- where what is added is within a tree, at most as many vertices are added as the tree is large
+-- if what is added is within a tree, the vertices added are at most as many as the size of the tree
 pub added_fit : (old new : List Vertex) (t : Tree) → IsTable new → Grows old new →
     AddsWithin old new t → length new ≤ length old + size t
 added_fit old new t table grows adds =

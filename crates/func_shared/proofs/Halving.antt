@@ -1,4 +1,4 @@
--- How the trees of numbers split at a variable.
+-- The halves of the trees of numbers at a variable.
 use Rattle.std.proofs.Common.{◌≡◌, ℕ, zero, suc, ◌<◌, ◌≤◌, List, refl, sym, ◌∙◌, subst, arith}
 use Rattle.func_core.specs.Trees.{Tree, Zero, One, Node, IsReduced}
 use Rattle.func_shared.specs.Vertices.{tree_at, IsNumber, IsTable}
@@ -14,7 +14,7 @@ split_node place t low high e r =
     subst (λ (u : Tree). SplitsAt place u low high) (sym e)
     (splits_node 0 place low high (subst (λ (u : Tree). IsReduced 0 u) e r))
 
--- a tree that starts lower is both its halves
+-- both halves of a tree at a variable above its top variable are the tree
 split_above : (place other : ℕ) (t low high : Tree) → t ≡ Node other low high → place < other →
     IsReduced 0 t → SplitsAt place t t t
 split_above place other t low high e below r =

@@ -57,7 +57,7 @@ pub inner-one : (t s : Tree) → t ≡ One → is_member tree_eq (inner t) s ≡
 unfolding inner
 inner-one t s e m = false≢true (subst (λ (u : Tree). is_member tree_eq (inner u) s ≡ true) e m)
 
--- an inner subtree's are the tree's
+-- the inner subtrees of an inner subtree are the tree's
 pub inner_through : (t s r : Tree) → is_member tree_eq (inner t) s ≡ true →
     is_member tree_eq (inner s) r ≡ true → is_member tree_eq (inner t) r ≡ true
 inner_through Zero s r p q = absurd (inner-zero Zero s refl p)
@@ -118,7 +118,7 @@ unique-distinct (u ∷ us) = cases (is_member tree_eq us u) refl (unique-distinc
     cases true m h = h
     cases false m h = (apart_from_absent u (unique_keys tree_eq us) (unique-member us u ∙ m), h)
 
--- a tree is at most as large as a list that has its inner subtrees
+-- the size of a tree is at most the length of a list that has its inner subtrees
 pub size-within : (t : Tree) (ts : List Tree) →
     ((s : Tree) → is_member tree_eq (inner t) s ≡ true → is_member tree_eq ts s ≡ true) →
     size t ≤ length ts
@@ -128,7 +128,7 @@ size-within t ts h =
     (unique-distinct (inner t))
     (λ s m. h s (sym (unique-member (inner t) s) ∙ m))
 
--- different trees among its inner subtrees are at most as many as it is large
+-- the number of different trees among its inner subtrees is at most its size
 pub size-above : (t : Tree) (ts : List Tree) → IsDistinct tree_eq ts →
     ((s : Tree) → is_member tree_eq ts s ≡ true → is_member tree_eq (inner t) s ≡ true) →
     length ts ≤ size t

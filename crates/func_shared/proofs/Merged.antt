@@ -41,7 +41,7 @@ joined_computes place low high point = cases (tree_eq low high) refl
     cases true e = both (point place) (ap (λ (t : Tree). eval t point) (tree_eq-same low high e))
     cases false e = refl
 
--- it is reduced where its halves are, above the variable
+-- it is reduced if its halves are, above the variable
 pub joined_reduced : (least place : ℕ) (low high : Tree) → least ≤ place →
     IsReduced (suc place) low → IsReduced (suc place) high → IsReduced least (joined place low high)
 unfolding joined IsReduced
@@ -184,7 +184,7 @@ merged_node-reduced operation least place low high of_low of_high (Node other lo
         joined_reduced least place _ _ r.0 (p (suc place) lo r.2 first)
         (q (suc place) hi r.3 second)
 
--- an operation on trees makes the operation's bit at each point
+-- the result of an operation on trees has the operation's bit at each point
 pub merged_computes : (operation : Operation) (t u : Tree) (point : ℕ → Bool) →
     eval (merged operation t u) point ≡ bits operation (eval t point) (eval u point)
 unfolding merged eval
@@ -195,7 +195,7 @@ merged_computes operation (Node place low high) u point =
     u point (λ v. merged_computes operation low v point)
     (λ v. merged_computes operation high v point)
 
--- of reduced trees it makes a reduced one
+-- of reduced trees the result is reduced
 pub merged_reduced : (operation : Operation) (least : ℕ) (t u : Tree) → IsReduced least t →
     IsReduced least u →
     IsReduced least (merged operation t u)
@@ -207,7 +207,7 @@ merged_reduced operation least (Node place low high) u r s =
     (merged operation high) u r s
     (λ more v. merged_reduced operation more low v) (λ more v. merged_reduced operation more high v)
 
--- what an operation makes of two trees is any reduced tree that computes alike
+-- a reduced tree that computes the same as an operation on two trees is its result
 pub merged_is : (operation : Operation) (least : ℕ) (t u v : Tree) → IsReduced least t →
     IsReduced least u → IsReduced least v →
     ((point : ℕ → Bool) → bits operation (eval t point) (eval u point) ≡ eval v point) →

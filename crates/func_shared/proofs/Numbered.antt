@@ -1,5 +1,5 @@
--- The trees of numbered vertices, and that a table stays one where a vertex is put behind it and
--- where it is cut.
+-- The trees of numbered vertices, and that a table stays one after a vertex is appended and after
+-- it is cut.
 use Rattle.std.proofs.Common.{◌≡◌, ℕ, zero, suc, ◌+◌, ◌-◌, ◌<◌, ◌≤◌, Bool, true, false, if◌then◌else◌, Option, Some, None, List, [], ◌∷◌, ◌++◌, length, fold, get_or, slice_get, take, drop, refl, sym, ap, ◌∙◌, subst, inl, inr, ◌⊎◌, arith, length-append, eq-eqb}
 use Rattle.std.specs.List.{list_any}
 use Rattle.std.specs.Option.{IfSome}
@@ -40,7 +40,7 @@ pub length-trees : (vs : List Vertex) → length (trees vs) ≡ 2 + length vs
 unfolding trees
 length-trees vs = omega (arith, fold-length vs (Zero ∷ One ∷ []))
 
--- given trees stay, whatever vertices follow them
+-- given trees stay, whatever vertices are appended
 fold-old : (vs : List Vertex) (ts : List Tree) (n : ℕ) → n < length ts →
     tree_in (fold with_vertex ts vs) n ≡ tree_in ts n
 fold-old [] ts n lt = refl
@@ -164,7 +164,7 @@ pub record MayFollow (vs : List Vertex) (v : Vertex) : Type 0 where
   pub apart : v.low ≡ v.high → ⊥
   pub room : 2 + length vs < 4294967296
 
--- no vertex of a table is one that is new
+-- a new vertex is not one of a table
 abbrev pub IsNew : List Vertex → Vertex → Type 0
 IsNew vs v = (n : ℕ) → slice_get vs n ≡ Some v → ⊥
 
@@ -271,7 +271,7 @@ table-none = record { below = λ n w at. cc; one = ones; reduced = reduceds; sho
     reduceds (suc (suc n)) = reduced_zero (tree_at [] (suc (suc n)))
         (tree_at-past [] (suc (suc n)) (omega arith))
 
--- the first vertices of a table are one
+-- the first vertices of a table are a table
 pub table-cut : (vs : List Vertex) (count : ℕ) → IsTable vs → IsTable (take count vs)
 table-cut vs count table = record {
   below =
@@ -418,7 +418,7 @@ test_itself v = rw (
   eq-eqb v.high v.high refl,
 ) refl
 
--- vertices that pass the test are one vertex
+-- vertices that pass the test are the same
 pub test_same : (v w : Vertex) → same_test v w ≡ true → v ≡ w
 test_same v w e =
     let (place, rest) = and_parts _ _ e in
@@ -426,7 +426,7 @@ test_same v w e =
     same_vertex v w (eqb-true v.place w.place place) (eqb-true v.low w.low low)
     (eqb-true v.high w.high high)
 
--- where none of a set passes, none is the vertex
+-- if none of a set passes, none is the vertex
 none_there : (v : Vertex) (vs : List Vertex) (n : ℕ) → list_any (same_test v) vs ≡ false →
     slice_get vs n ≡ Some v → ⊥
 none_there v vs n none at =

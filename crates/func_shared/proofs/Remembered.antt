@@ -41,7 +41,7 @@ nothing_right vs = (
   ),
 )
 
--- with more room
+-- after the room was enlarged
 pub resized : (vs : List Vertex) (xs ys : List Answer) (ok : Bool) (n k : ℕ) →
     ys ≡ (if ok then take n xs ++ replicate k
     (record { operation = And; left = 0; right = 0; number = 0 }) else xs) →

@@ -1,4 +1,5 @@
--- Functions by numbers of one table: what a number means, and that each stays as the table grows.
+-- Functions by numbers of one table: what a number means, and that each stays the same as the table
+-- grows.
 use Rattle.std.proofs.Common.{◌≡◌, ℕ, ◌+◌, ◌<◌, ◌≤◌, Bool, true, false, if◌then◌else◌, nat_eq, List, length, refl, ap, sym, ◌∙◌, subst, arith, eq-eqb}
 use Rattle.std.specs.Prelude.{IsTrue, ◌↔◌}
 use Rattle.std.proofs.lemmas.Bool.{eqb-true}
@@ -18,7 +19,7 @@ use Rattle.func_shared.proofs.Numbered.{tree_at-zero, tree_at-one}
 use Rattle.func_shared.proofs.Growing.{kept}
 use Rattle.func_shared.proofs.Merged.{merged_computes, merged_reduced, reduced_One}
 
--- what an operation makes of reduced trees is the tree of the operation on their functions
+-- the result of an operation on reduced trees is the tree of the operation on their functions
 pub merged_tree : (operation : Operation) (t u : Tree) → IsReduced 0 t → IsReduced 0 u →
     IsTreeOf (λ point. bits operation (eval t point) (eval u point)) (merged operation t u)
 merged_tree operation t u r s = record {
@@ -109,7 +110,7 @@ variable_tree place at e = record {
   computes = λ point. eval_variable at Zero One point refl refl ∙ ap point e;
 }
 
--- the tree of a complement, which fits where the function does
+-- the tree of a complement, which fits if the function does
 pub complement_tree : (old : SharedFunctions) (f right : ℕ) → SharedHolds old f → right ≡ f →
     IsTreeOf (complement (eval (shared_tree old f)))
     (merged Xor (tree_at old.nodes 1) (tree_at old.nodes right))

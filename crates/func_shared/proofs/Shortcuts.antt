@@ -11,7 +11,7 @@ use Rattle.func_shared.specs.declared.cache.Pair.{Pair}
 use Rattle.func_shared.proofs.Merged.{merged_and_zero, merged_and_one, merged_or_zero, merged_or_one, merged_xor_zero, merged_and_same, merged_or_same, merged_xor_same}
 use Rattle.func_shared.proofs.Numbered.{tree_at-zero, tree_at-one}
 
--- what a pair's answer is, where what its numbers' trees give is known
+-- the answer of a pair, if what its numbers' trees give is known
 same_first : (vs : List Vertex) (operation : Operation) (pair : Pair) (t : Tree) →
     pair.left ≡ pair.right →
     merged operation (tree_at vs pair.left) (tree_at vs pair.left) ≡ t → t ≡ made vs operation pair

@@ -85,7 +85,7 @@ is_constant Zero = true
 is_constant One = true
 is_constant (Node place low high) = false
 
--- whether a walk that has seen some trees need not see a further one
+-- whether a walk that has seen some trees need not see another one
 abbrev pub noted : List Tree → Tree → Bool
 noted ts t = is_constant t || is_member tree_eq ts t
 
@@ -103,7 +103,7 @@ pub record IsWalk (tree : Tree) (ts : List Tree) (done : ℕ) : Type 0 where
       slice_get ts k ≡ Some (Node place low high) → (noted ts low ≡ true) × (noted ts high ≡ true)
   pub reached : done ≤ length ts
 
--- what holds of trees holds of them with one more
+-- what holds of some trees and of those with one more
 pub with_tree-cases : (P : List Tree → Type 0) (ts : List Tree) (t : Tree) →
     (noted ts t ≡ true → P ts) → (noted ts t ≡ false → P (ts ++ t ∷ [])) → P (with_tree ts t)
 with_tree-cases P ts t same new = cases (noted ts t) refl
@@ -170,7 +170,7 @@ itself Zero e = absurd (false≢true (sym e))
 itself One e = absurd (false≢true (sym e))
 itself (Node v lo hi) e = inner-itself v lo hi
 
--- a walk that sees one tree more, which is an inner subtree or a constant
+-- a walk that sees one more tree, which is an inner subtree or a constant
 walk-more : (tree : Tree) (ts : List Tree) (done : ℕ) (t : Tree) →
     (is_constant t ≡ false → is_member tree_eq (inner tree) t ≡ true) →
     IsWalk tree ts done → IsWalk tree (with_tree ts t) done
@@ -256,7 +256,7 @@ member-at (u ∷ ts) t m = elim (or_cases (tree_eq t u) (is_member tree_eq ts t)
           (suc k, omega (arith, lt), at)
     ]
 
--- the walk is done with one tree more, whose halves it sees
+-- the walk finishes one more tree, whose halves it sees
 pub walk-step : (tree : Tree) (ts : List Tree) (done place : ℕ) (low high : Tree) →
     slice_get ts done ≡ Some (Node place low high) →
     IsWalk tree ts done → IsWalk tree (with_tree (with_tree ts low) high) (done + 1)
@@ -303,7 +303,7 @@ walk-step tree ts done place low high at walk = record {
           subst (λ (u : Tree). noted all u ≡ true) second (noted-itself (with_tree ts low) high),
         )
 
--- a walk that is done with all it has seen has seen each inner subtree
+-- a walk that has finished all it has seen has seen each inner subtree
 walk-covers : (tree : Tree) (ts : List Tree) → IsWalk tree ts (length ts) → (t s : Tree) →
     noted ts t ≡ true →
     is_member tree_eq (inner t) s ≡ true → is_member tree_eq ts s ≡ true
@@ -385,7 +385,7 @@ constant-number vs (suc (suc n)) table is =
     big : nat_lt (suc (suc n)) 2 ≡ false
     big = le-ltb (suc (suc n)) 2 (omega arith)
 
--- numbers are one where their trees are
+-- numbers are the same if their trees are
 same-number : (vs : List Vertex) (m n : ℕ) → IsTable vs → IsNumber vs m → IsNumber vs n →
     (m == n) ≡ tree_eq (tree_at vs m) (tree_at vs n)
 same-number vs m n table p q = cases (m == n) (tree_eq (tree_at vs m) (tree_at vs n)) refl refl
@@ -437,7 +437,7 @@ past_end [] k e = omega arith
 past_end (x ∷ xs) zero e = cc
 past_end (x ∷ xs) (suc k) e = omega (arith, past_end xs k e)
 
--- a walk over the vertices of a number's tree, which has seen some numbers; it is done with the
+-- a walk over the vertices of a number's tree, which has seen some numbers, and has finished the
 -- first of them, at most as many as a limit
 pub record Walks (vs : List Vertex) (number limit : ℕ) (seen : List ℕ) (done : ℕ) : Type 0 where
   pub numbers : AreNumbers vs seen

@@ -1,4 +1,4 @@
--- Which inner subtrees the trees of an operation have.
+-- The inner subtrees of the trees of an operation.
 use Rattle.std.proofs.Common.{◌≡◌, ℕ, Bool, true, false, if◌then◌else◌, refl, sym, subst}
 use Rattle.std.specs.Set.{is_member}
 use Rattle.func_core.specs.Trees.{Tree, Node}

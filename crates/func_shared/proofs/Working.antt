@@ -1,4 +1,4 @@
--- The operation at work: what holds at each turn, and that it holds at the next.
+-- The operation at each turn: what holds, and that it holds at the next turn.
 use Rattle.std.proofs.Common.{◌≡◌, ℕ, ◌+◌, ◌-◌, ◌<◌, List, [], ◌∷◌, ◌++◌, reverse, length, refl, ap, sym, ◌∙◌, subst, arith}
 use Rattle.std.proofs.lemmas.List.{reverse-append}
 use Rattle.func_core.specs.Trees.{Tree}
@@ -101,7 +101,7 @@ resumed_on old vs new answers kept operation whole before below frames frame giv
           (turn_tree vs operation given) e works.stack).1;
     }
 
--- the same at values that are equal
+-- the same for equal values
 pub works_same : (old vs table : List Vertex) (answers kept : Answers) (operation : Operation)
     (whole : Tree) (before frames : List Frame) (turn next : Turn) →
     table ≡ vs → kept ≡ answers → frames ≡ before → next ≡ turn →

@@ -1,6 +1,6 @@
--- The state of an operation at work: answers that it remembers, and frames that wait for answers.
--- Source: K. S. Brace, R. L. Rudell and R. E. Bryant, "Efficient Implementation of a BDD Package"
--- (27th Design Automation Conference, 1990), the computed table; the stack is the project's own.
+-- The state of an operation: answers that it remembers, and frames that wait for answers. Source:
+-- K. S. Brace, R. L. Rudell and R. E. Bryant, "Efficient Implementation of a BDD Package" (27th
+-- Design Automation Conference, 1990), the computed table; the stack is the project's own.
 use Rattle.std.specs.Prelude.{◌≡◌, ℕ, zero, suc, ◌+◌, ◌*◌, ◌<◌, ◌≤◌, All, List, [], ◌∷◌}
 use Rattle.func_core.specs.Trees.{Tree, IsReduced}
 use Rattle.func_shared.specs.Vertices.{tree_at, IsNumber, Has}

@@ -1,6 +1,6 @@
 -- How `SharedFunctions` stores its functions: as numbers of one table, of which those below a mark
--- are valid. These words serve its private functions: a caller needs none of them, since each
--- clause of the trait and of the laws is stated without them.
+-- are valid. Only private functions need these definitions: each clause of the trait and of the
+-- laws is stated without them.
 use Rattle.std.specs.Prelude.{ℕ, ◌<◌}
 use Rattle.func_core.specs.Trees.{BooleanFunction, Tree, eval, IsReduced}
 use Rattle.func_shared.specs.Vertices.{tree_at}

@@ -5,7 +5,7 @@
 //! waits for the answer of its low or high halves; answers are looked up in and added to the
 //! computed table (K. S. Brace, R. L. Rudell and R. E. Bryant, 1990). `answer` returns the number
 //! of exactly the tree that `specs/Merging.antt` defines. All new vertices are inner subtrees of
-//! it, so `TooBig` is exact.
+//! it, so `TooBig` is returned only if it is above the limit; a result may be above it, too.
 
 ghost use Rattle.std.specs.Prelude.{◌≡◌, ℕ, ◌+◌, ◌<◌, ◌≤◌, List, None, reverse, IfOk, IfSome};
 ghost use Rattle.func_core.specs.Trees.{Tree};
@@ -196,8 +196,8 @@ fn resume(
     }
 }
 
-/// The number of the result of an operation on two numbers. `TooBig` is returned only if the table
-/// has got more new vertices than the limit, each of which belongs to the result.
+/// The number of the result of an operation on two numbers. `TooBig` only if more vertices than the
+/// limit were added to the table, each of which belongs to the result.
 pub(crate) fn answer(
     alloc: Global,
     table: &mut Table,

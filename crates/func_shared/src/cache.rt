@@ -1,8 +1,8 @@
 //! The computed table: remembered answers of operations (K. S. Brace, R. L. Rudell and R. E.
 //! Bryant, "Efficient Implementation of a BDD Package", 1990).
 //!
-//! Each answer has one slot, by a hash of its operation and numbers, and replaces what the slot
-//! held; a lost answer costs time alone. The table doubles when as many answers were added as it
+//! Each answer has one slot, by a hash of its operation and numbers, and replaces the one in that
+//! slot; a lost answer only costs time. The table doubles after as many answers were added as it
 //! has slots, up to a bound, and stays as it is if memory runs out. Invariant: every remembered
 //! answer is right for the table of vertices.
 

@@ -1,10 +1,10 @@
 //! The table of vertices together with the remembered answers of operations on it.
 //!
-//! `operate` returns the number of the result if its tree is within the limit, and `TooBig` exactly
-//! if it is not; on an error it removes the new vertices and all answers, so that earlier numbers
-//! denote the same trees. Invariant: all remembered answers are right, and no two numbers have one
-//! tree (R. E. Bryant, 1986). `operate` also keeps all trees within the limit. `shed` drops all
-//! vertices if there are too many to keep.
+//! `operate` returns the number of the result only if its tree is within the limit, and `TooBig`
+//! only if it is not; on an error it removes the new vertices and all answers, which no clause
+//! says, and earlier numbers denote the same trees. Invariant: all remembered answers are right,
+//! and no two numbers have one tree (R. E. Bryant, 1986). `operate` also keeps all trees within the
+//! limit. `shed` drops all vertices if there are too many to keep.
 
 ghost use Rattle.std.specs.Prelude.{◌≡◌, ℕ, ◌<◌, ◌≤◌, Err, [], length, IfOk};
 ghost use Rattle.func_core.specs.Trees.{Zero, One, Node};
@@ -67,7 +67,8 @@ impl Nodes {
     }
 
     /// The number of the result of an operation on the trees of two numbers, unless its size is
-    /// above the limit. On an error the table is as it was.
+    /// above the limit. On an error the table is as it was; the clauses say only that earlier
+    /// numbers are.
     pub(crate) fn operate(
         &mut self,
         operation: Operation,

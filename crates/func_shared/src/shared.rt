@@ -4,7 +4,7 @@
 //! its vertex, so equal functions have one number (R. E. Bryant, 1986; K. S. Brace, R. L. Rudell
 //! and R. E. Bryant, 1990). Numbers below `standing` are valid. Invariants: valid numbers are
 //! numbers of the table, every tree is within the limit, and no two numbers have one tree. A
-//! variable above 32 bits is refused with `Memory`.
+//! variable above 32 bits is refused with `Memory`; no clause says so.
 
 ghost use Rattle.std.specs.Prelude.{◌≡◌, ℕ, ◌+◌, ◌<◌, ◌≤◌, length, IfOk};
 ghost use Rattle.func_shared.specs.Fitting.{AllFit};

@@ -1,6 +1,6 @@
 //! The unique table of vertices (K. S. Brace, R. L. Rudell and R. E. Bryant, 1990): numbers 0 and 1
-//! are the constants, and number n + 2 is the vertex at index n. Each vertex is over lower numbers,
-//! no two numbers have one tree, and each tree is reduced.
+//! are the constants, and number n + 2 is that of the vertex at index n. The halves of each vertex
+//! have lower numbers, no two numbers have one tree, and each tree is reduced.
 
 ghost use Rattle.std.specs.Prelude.{◌≡◌, ℕ, suc, ◌+◌, ◌<◌, ◌≤◌, Some, None, [], length, take, IfOk, IfSome, OnOk};
 ghost use Rattle.func_core.specs.Trees.{Node, IsReduced};
@@ -76,7 +76,8 @@ impl Table {
     }
 
     /// The number of a node over the trees of two numbers, or of the half if both are equal. A
-    /// vertex is added only if no number had the tree.
+    /// vertex is added only if no number had the tree, and only one that is an inner subtree of
+    /// that node.
     pub(crate) fn join(&mut self, place: u32, low: u32, high: u32) -> Result<u32, AllocError>
         requires low { IsNumber self.old low }
         requires high { IsNumber self.old high }

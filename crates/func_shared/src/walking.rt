@@ -22,7 +22,7 @@ fn see(seen: &mut IndexSet<u32>, number: u32) -> Result<(), AllocError>
 }
 
 /// The number of vertices of a number's tree, or `None` if it is above the limit. The walk stops
-/// once it has seen more than the limit, so it takes no longer than what it sees; no clause says
+/// after it has seen more than the limit, so it takes no longer than what it sees; no clause says
 /// so.
 pub(crate) fn count_within(
     alloc: Global,

@@ -1,4 +1,4 @@
--- When two of some cubes share just one cube.
+-- When two of some cubes share exactly a given cube.
 use Rattle.std.proofs.Common.{◌≡◌, ◌↔◌, ℕ, ◌+◌, ◌-◌, ◌<◌, ◌≤◌, Bool, true, false, cond, List, [], ◌∷◌, ◌++◌, Bor, map, filter, length, get_or, take, drop, refl, sym, ap, ◌∙◌, subst, inl, inr, arith, take_all}
 use Rattle.std.specs.List.{list_all, list_any}
 use Rattle.std.proofs.lemmas.List.{length-drop}
@@ -27,7 +27,7 @@ all_from : (test : Literal → Bool) (cube : Cube) → ((literal : Literal) → 
 all_from test [] each = refl
 all_from test (literal ∷ cube) each = and_from _ _ (each literal (inl refl)) (all_from test cube (λ other m. each other (inr m)))
 
--- a literal that a test leaves stands in the cube and passes the test
+-- a literal that passes a test is in the cube and passes the test
 pub left_has : (test : Literal → Bool) (cube : Cube) (literal : Literal) → Has literal (filter test cube) → Has literal cube × (test literal ≡ true)
 left_has test [] literal m = absurd m
 left_has test (first ∷ cube) literal m = cases (test first) refl (left_has test cube literal) m
@@ -60,7 +60,7 @@ some_has (first ∷ others) one cube k =
       | inr n ↦ (let p = some_has others one cube n in (p.0, inr p.1, p.2))
     ]
 
--- what a test leaves of cubes has the cubes that share it
+-- the cubes that pass a test include those that share a cube
 some_kept : (test : Cube → Bool) (others : List Cube) (one other cube : Cube) → Has other others → test other ≡ true → shared one other ≡ cube → IsSharedWithSome (filter test others) one cube
 some_kept test [] one other cube m h e = absurd m
 some_kept test (first ∷ others) one other cube m h e = cases (test first) refl (λ n. some_kept test others one other cube n h e) m
@@ -107,7 +107,7 @@ two_kept (first ∷ cubes) cube k = cases (has_all cube first) refl (two_kept cu
     cases true h rest n = elim n as (λ _. IsSharedByTwo (first ∷ filter (has_all cube) cubes) cube) [ inl e ↦ inl (kept e).1 | inr l ↦ inr (rest l) ]
     cases false h rest n = elim n as (λ _. IsSharedByTwo (filter (has_all cube) cubes) cube) [ inl e ↦ absurd (false≢true (sym h ∙ (kept e).0)) | inr l ↦ rest l ]
 
--- ---- the answer
+-- ---- the result
 
 two_pair : (cubes : List Cube) (cube : Cube) → 2 ≤ length cube → IsSharedByTwo cubes cube → IsSharedOf cubes (cube ∷ [])
 two_pair [] cube two k = absurd k
@@ -162,7 +162,7 @@ shared_by_holders cubes holders cube two are = (
       (pair_two k.pair.before k.pair.between k.pair.after k.one k.other cube (cube_is (shared k.one k.other) cube k.is)))),
 )
 
--- ---- a loop over cubes behind references
+-- ---- a loop over borrowed cubes
 
 pub two_here : (cubes : List (Bor Cube)) (i : ℕ) (one : Bor Cube) (cube : Cube) → i < length cubes → one ≡ get_or cubes i one
     → IsSharedWithSome (map (λ (other : Bor Cube). other.now) (take (length cubes - (i + 1)) (drop (i + 1) cubes))) one.now cube

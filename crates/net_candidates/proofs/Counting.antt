@@ -27,7 +27,8 @@ either {X} p q (x ∷ xs) = cases (p x) (q x) (either p q xs)
     cases false true h = omega (arith, h)
     cases false false h = omega (arith, h)
 
--- where a place is told for each literal as often as a cube has it, it is met for another cube as often at least as that one shares literals
+-- if an index is listed under each literal as often as a cube has it, it is visited for another
+-- cube at least as often as the two share literals
 pub met_least : (told : Literal → List ℕ) (one : Cube) (at : ℕ) → ((other : Literal) → many (λ literal. same_literal literal other) one ≤ many (λ place. place == at) (told other)) → (cube : Cube)
     → many (λ literal. list_any (same_literal literal) cube) one ≤ many (λ place. place == at) (flat_map told cube)
 met_least told one at least [] = never one

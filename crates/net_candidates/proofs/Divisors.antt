@@ -1,4 +1,5 @@
--- Covers as divisors: over the inputs of a table their rows are different, and have as many literals as the cubes.
+-- Covers as divisors: over the inputs of a table their rows are different, and have as many
+-- literals as the cubes.
 use Rattle.std.proofs.Common.{◌≡◌, ℕ, ◌+◌, Bool, true, false, cond, Option, Some, None, List, [], ◌∷◌, map, length, bytes_eq, Ordering, refl, sym, ap, ap₂, ◌∙◌, subst, inl, inr, arith}
 use Rattle.std.specs.List.{sum_by, list_all}
 use Rattle.std.specs.List.Sorted.{IsStrictlySortedBy}
@@ -26,7 +27,7 @@ use Rattle.alg_tables.specs.Dividing.{sorted_names, cover_table}
 use Rattle.alg_tables.proofs.CoverTables.{names_over, sorted_has_name, cover_table_once}
 use Rattle.alg_tables.proofs.Quotients.{all_test}
 
--- ---- what stands in a list, said twice
+-- ---- the items of a list, in two forms
 
 pub has_in : {X : Type 0} (x : X) (xs : List X) → Has x xs → IsIn x xs
 has_in x [] m = m
@@ -36,7 +37,7 @@ pub in_has : {X : Type 0} (x : X) (xs : List X) → IsIn x xs → Has x xs
 in_has x [] m = m
 in_has x (y ∷ ys) m = elim m as (λ _. Has x (y ∷ ys)) [ inl e ↦ inl e | inr n ↦ inr (in_has x ys n) ]
 
--- what rises stands once
+-- the items of a rising list occur once
 pub rising_once : {X : Type 0} {cmp : X → X → Ordering} → IsOrder cmp → (xs : List X) → IsStrictlySortedBy cmp xs → AreOnce xs
 rising_once order [] h = tt
 rising_once order (x ∷ xs) h = (
@@ -44,7 +45,7 @@ rising_once order (x ∷ xs) h = (
   rising_once order xs (rises_tail order x xs h),
 )
 
--- ---- a cube is told by its row
+-- ---- a cube is determined by its row
 
 pub map_at : (f g : List ℕ → Option Bool) (names : List (List ℕ)) → map f names ≡ map g names → (name : List ℕ) → has names name ≡ true → f name ≡ g name
 map_at f g [] e name h = absurd (false≢true h)
@@ -89,7 +90,7 @@ row_tells names one other first second e =
     (λ literal m. has_in literal other (literal_kept names one other first e literal (in_has literal one m)))
     (λ literal m. has_in literal one (literal_kept names other one second (sym e) literal (in_has literal other m)))
 
--- a cover whose cubes rise, each once, and have different names
+-- a cover whose cubes rise, occur once, and have different names
 pub record IsProper (cover : NamedCover) : Type 0 where
   pub rise : (cube : Cube) → Has cube cover → IsStrictlySortedBy literal_cmp cube
   pub apart : all_apart cover ≡ true

@@ -1,4 +1,5 @@
--- Steps lead to one end: the best candidate is one, and where no candidate saves, no room is left, or the candidates cannot be listed, there is no step.
+-- Steps lead to a single end: the best candidate is unique, and if no candidate saves, there is no
+-- room, or the candidates cannot be listed, there is no step.
 use Rattle.std.proofs.Common.{◌≡◌, ℕ, ◌<◌, ◌≤◌, List, Ordering, Less, Equal, Greater, refl, sym, ap, ap₂, ◌∙◌, subst, arith}
 use Rattle.std.specs.Ordering.{ordering_reverse}
 use Rattle.circuit_model.specs.Counts.{literals_of}
@@ -13,7 +14,7 @@ use Rattle.net_core.specs.Fresh.{node_count}
 use Rattle.net_core.proofs.NewNames.{new_name_one}
 use Rattle.sis_base.specs.declared.limits.TheConstants.{MAX_NODES}
 
--- what an order puts on neither side of a thing is that thing
+-- two items of which neither is less than the other are the same
 neither_below : {X : Type 0} {cmp : X → X → Ordering} → IsOrder cmp → (x y : X) → (cmp x y ≡ Less → ⊥) → (cmp y x ≡ Less → ⊥) → x ≡ y
 neither_below {cmp = cmp} order x y h k = cases (cmp x y) refl
   where
@@ -22,7 +23,7 @@ neither_below {cmp = cmp} order x y h k = cases (cmp x y) refl
     cases Equal e = order.same x y e
     cases Greater e = absurd (k (order.total.antisymm y x ∙ ap ordering_reverse e))
 
--- the best candidate is one
+-- the best candidate is unique
 pub best_one : (rule : Rule) (circuit : Circuit) (name : List ℕ) (cover other : NamedCover) → IsBest rule circuit name cover → IsBest rule circuit name other → cover ≡ other
 best_one rule circuit name =
     best_choice_one (IsOpen rule circuit name) (λ other one. cover_cmp other one ≡ Less) (literals_after circuit name) (literals_of circuit) (λ x y may might. neither_below cover_order x y)
@@ -34,7 +35,7 @@ step_one rule circuit new other step second =
     let one = best_one rule circuit step.name step.cover second.cover step.next.best (subst (λ (name : List ℕ). IsBest rule circuit name second.cover) (sym same) second.next.best) in
     step.made ∙ ap₂ (extracted circuit) same one ∙ sym second.made
 
--- where no candidate saves nothing is next
+-- if no candidate saves none is next
 done_no_next : (rule : Rule) (circuit : Circuit) → IsDone rule circuit → (name : List ℕ) (cover : NamedCover) → IsNext rule circuit name cover → ⊥
 done_no_next rule circuit done name cover next =
     none_best (IsOpen rule circuit name) (λ other one. cover_cmp other one ≡ Less) (literals_after circuit name) (literals_of circuit) (done.none name next.free) cover next.best
@@ -42,7 +43,7 @@ done_no_next rule circuit done name cover next =
 done_no_step : (rule : Rule) (circuit : Circuit) → IsDone rule circuit → (new : Circuit) → IsStep rule circuit new → ⊥
 done_no_step rule circuit done new step = done_no_next rule circuit done step.name step.cover step.next
 
--- where there is no room, or a table has too many kernels, there is no step
+-- if there is no room, or a table has too many kernels, there is no step
 over_no_step : (rule : Rule) (circuit : Circuit) → IsOver rule circuit → (new : Circuit) → IsStep rule circuit new → ⊥
 over_no_step rule circuit over new step = no_room (node_count circuit) MAX_NODES step.room over.over
   where
@@ -72,7 +73,7 @@ full_not_unlistable rule circuit name =
     stops_apart (IsStep rule) (step_one rule) (IsOver rule) (λ last. IsFirstMany rule last.tables name) (over_no_step rule) (many_no_step rule name)
     (λ last over many. first_not_all (IsListable rule) (HasManyKernels rule) (many_apart rule) last.tables many.table many.first over.next.listable) circuit
 
--- the first table with too many kernels is one
+-- the first table with too many kernels is unique
 many_one : (rule : Rule) (tables : List Table) (name other : List ℕ) → IsFirstMany rule tables name → IsFirstMany rule tables other → name ≡ other
 many_one rule tables name other one second =
     sym one.named ∙ ap (λ (t : Table). t.output) (first_one (IsListable rule) (HasManyKernels rule) (many_apart rule) tables one.table second.table one.first second.first) ∙ second.named

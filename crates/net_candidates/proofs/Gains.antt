@@ -1,5 +1,5 @@
--- How many literals there are where a cover is extracted: the sum over the tables that are divided, and over the new one; and of a table
--- that is divided a number that does not rest on the new name.
+-- The number of literals after a cover is extracted: the sum over the tables that are divided, and
+-- over the new one; for a table that is divided it does not depend on the new name.
 use Rattle.std.proofs.Common.{◌≡◌, ◌⊎◌, ℕ, ◌+◌, ◌*◌, ◌≤◌, zero, suc, Bool, true, false, not, ◌||◌, cond, if◌then◌else◌, Option, List, [], ◌∷◌, ◌++◌, map, filter, length, bytes_eq, refl, sym, ap, ap₂, ◌∙◌, subst, inl, inr, arith}
 use Rattle.std.specs.List.{sum_by}
 use Rattle.std.proofs.lemmas.Bool.{or_cases, false≢true}
@@ -75,8 +75,8 @@ module _ (name : List ℕ) (bit : Bool) (cover : NamedCover) (table : Table) whe
     pub over : is_over table.inputs cover ≡ true
     pub some : has_no_cube (found name bit cover table) ≡ false
 
-  -- the table is shaped, reads each input once, and not the new signal; where it is over what the cover reads no row stands twice in the
-  -- divisor
+  -- the table is well formed, reads each input once, and not the new signal; if it is over what the
+  -- cover reads no row of the divisor occurs twice
   pub record IsDivisible : Type 0 where
     pub wide : IsWide table
     pub once : all_different table.inputs ≡ true
@@ -109,7 +109,7 @@ module _ (name : List ℕ) (bit : Bool) (cover : NamedCover) (table : Table) whe
       (some_joined bit (rows_of name bit cover table) (divisor name bit cover table) (found name bit cover table) table.phase is.some)
       ∙ ap (λ (rows : List (List (Option Bool))). literals_in_all (firsts rows)) (all_places_back (joined_rows bit (rows_of name bit cover table) (divisor name bit cover table) (found name bit cover table))))
 
-  -- what is lost and what is gained; nothing on the right rests on the name
+  -- what is lost and what is gained; the right side does not depend on the name
   pub divided_closed : IsDivisible → IsDivided
       → literals_of_table (divided name bit cover table)
       + (length (divisor name bit cover table) * literals_in_all (found name bit cover table) + length (found name bit cover table) * literals_in_all (divisor name bit cover table))
@@ -138,7 +138,7 @@ some_rows : (rows : List (List (Option Bool))) → 1 ≤ literals_in_all rows �
 some_rows [] h = h
 some_rows (row ∷ rows) h = omega arith
 
--- where the divisor has a literal, the divided table has no more literals than the table
+-- if the divisor has a literal, the divided table has no more literals than the table
 pub divided_small : (name : List ℕ) (bit : Bool) (cover : NamedCover) (table : Table) → IsDivisible name bit cover table → (is_over table.inputs cover ≡ true → 1 ≤ literals_in_all (divisor name bit cover table))
     → literals_of_table (divided name bit cover table) ≤ literals_of_table table
 divided_small name bit cover table may some =

@@ -1,4 +1,4 @@
--- Whether what two cubes share is just a third one, seen literal by literal.
+-- Whether what two cubes share is exactly a third one, literal by literal.
 use Rattle.std.proofs.Common.{◌≡◌, ◌↔◌, ℕ, suc, ◌+◌, ◌-◌, ◌<◌, ◌≤◌, Bool, true, false, cond, List, [], ◌∷◌, length, get_or, drop, sym, ap, ◌∙◌, subst, arith, add-one}
 use Rattle.std.proofs.lemmas.List.{drop_all, length-drop}
 use Rattle.std.proofs.lemmas.Bool.{false≢true}
@@ -19,7 +19,7 @@ shared_head one other i literal b lt is e =
     ap (λ (xs : Cube). shared xs other) (drop_head one i literal lt is)
     ∙ ap (λ (c : Bool). cond c (literal ∷ shared (drop (i + 1) one) other) (shared (drop (i + 1) one) other)) e
 
--- what the rests share is the rest of a cube just where the whole does
+-- what the remainders share is the remainder of a cube exactly if the same holds of the whole
 abbrev pub IsAsFar : Cube → Cube → Cube → ℕ → ℕ → Type 0
 IsAsFar one other cube i count = (shared (drop i one) other ≡ drop count cube) ↔ (shared one other ≡ cube)
 

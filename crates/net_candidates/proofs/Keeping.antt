@@ -39,7 +39,7 @@ cube_decides one other = slice_eq-Decides literal_decides one other (pointwise s
 cover_same : (one other : NamedCover) → pointwise (pointwise same_literal) one other ≡ true → one ≡ other
 cover_same one other h = (slice_eq-Decides cube_decides one other (pointwise (pointwise same_literal) one other) refl).0 h
 
--- ---- a key put in
+-- ---- a key that is added
 
 module _ {X : Type 0} (eq : X → X → Bool) (same : (x y : X) → eq x y ≡ true → x ≡ y) where
   pub any_has : (keys : List X) (key : X) → list_any (eq key) keys ≡ true → Has key keys
@@ -63,7 +63,7 @@ module _ {X : Type 0} (eq : X → X → Bool) (same : (x y : X) → eq x y ≡ t
         λ k. elim k as (λ _. Has x (keys ++ key ∷ [])) [ inl m ↦ Has-left x keys (key ∷ []) m | inr e ↦ Has-right x keys (key ∷ []) (inl e) ],
       )
 
--- ---- a cover put in, if there is one
+-- ---- a cover that is added, if there is one
 
 pub found_put : (old new : List NamedCover) (found : Option NamedCover) (made : NamedCover) → found ≡ Some made → new ≡ insert_key (pointwise (pointwise same_literal)) old made
     → (cover : NamedCover) → Has cover new ↔ (Has cover old ⊎ (found ≡ Some cover))
@@ -82,7 +82,7 @@ found_put old new found made is e cover = (
     some_is : Some cover ≡ Some made → cover ≡ made
     some_is h = cc
 
--- what a set has after some items, as places, one item more
+-- what a set has after some items and after one item more
 abbrev pub HasFound : {X : Type 0} → (X → Option NamedCover) → List X → List NamedCover → List NamedCover → Type 0
 HasFound gives places old new = (cover : NamedCover) → Has cover new ↔ (Has cover old ⊎ Has cover (filter_map gives places))
 

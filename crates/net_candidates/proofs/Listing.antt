@@ -1,4 +1,5 @@
--- What the cubes of a list share, listed cube by cube: each with those before it that have two literals in common with it.
+-- What the cubes of a list share, listed cube by cube: each with those before it that have two
+-- literals in common with it.
 use Rattle.std.proofs.Common.{◌≡◌, ◌⊎◌, ℕ, zero, suc, ◌+◌, ◌<◌, ◌≤◌, ◌==◌, ◌↔◌, true, Option, Some, None, List, [], ◌∷◌, ◌++◌, length, get_or, take, flat_map, slice_get, refl, sym, ap, ◌∙◌, subst, inl, inr, arith, take_all, Ordering, Less, Equal, Greater, is_lt, is_gt, nat_cmp, true≢false}
 use Rattle.std.proofs.lemmas.List.{take_more, length-take-le}
 use Rattle.std.specs.BTreeSet.{BTreeSet, contains}
@@ -71,7 +72,7 @@ module _ {X Y : Type 0} (gives : X → X → Option Y) (last : X) (made : Y) whe
 
 -- ---- a cube with those before it
 
--- each place is told for each literal as often as the cube there has it, or oftener
+-- each index is listed for each literal at least as often as the cube there has it
 abbrev pub AreSpots : (Literal → List ℕ) → List Cube → Type 0
 AreSpots told cubes = (at : ℕ) (cube : Cube) → slice_get cubes at ≡ Some cube → (other : Literal) → many (λ literal. same_literal literal other) cube ≤ many (λ place. place == at) (told other)
 
@@ -113,7 +114,7 @@ found earlier cube cover at e = cases (slice_get earlier at) refl e
     cases None h k = absurd cc
     cases (Some other) h k = has_mapped (λ (x : Cube). shared_of x cube) earlier other cover (get_has earlier at other h) k
 
--- among some places are all that are met twice for a cube
+-- some indices include all that are visited twice for a cube
 abbrev pub ArePartners : (Literal → List ℕ) → Cube → List ℕ → Type 0
 ArePartners told cube places = (at : ℕ) → 2 ≤ many (λ place. place == at) (flat_map told cube) → Has at places
 
@@ -137,7 +138,7 @@ with_earlier earlier cube told places spots partners cover = (to, from)
 
 -- ---- all cubes, one after the other
 
--- what is listed of some cubes, and what is told of them
+-- the covers listed for some cubes, and the indices listed under literals
 pub record AreListed (cubes : List Cube) (made : List NamedCover) (told : Literal → List ℕ) : Type 0 where
   pub listed : (cover : NamedCover) → Has cover made ↔ Has cover (made_by_pairs shared_of cubes)
   pub spots : AreSpots told cubes

@@ -1,5 +1,6 @@
--- Sums of two cubes and products of two literals by which a table is divided are its own: two of its rows have the cubes beside what they
--- share, or one of its rows has the literals. So a candidate of fx is one of each table that it divides.
+-- Sums of two cubes and products of two literals by which a table is divided are its own: two of
+-- its rows have the cubes besides what they share, or one of its rows has the literals. So a
+-- candidate of fx is one of each table that it divides.
 use Rattle.std.proofs.Common.{◌≡◌, ◌≢◌, ◌⊎◌, ℕ, suc, Bool, true, false, not, Option, Some, None, List, [], ◌∷◌, map, length, bytes_eq, Less, refl, sym, ap, ap₂, ◌∙◌, subst, inl, inr}
 use Rattle.std.specs.Bool.{beq}
 use Rattle.std.specs.Cmp.{booleans_Decides}
@@ -54,7 +55,7 @@ apart_named f g (first ∷ names) apart name bit h e =
       | inr m ↦ apart_named f g names (λ i b. apart (suc i) b) name bit m e
     ]
 
--- ---- literals that stand in a cube
+-- ---- literals of a cube
 
 -- the literal of a name and a bit
 literal_from : List ℕ → Bool → Literal
@@ -85,7 +86,7 @@ literal_any literal (first ∷ cube) m =
       | inr n ↦ or_right (same_literal literal first) (list_any (same_literal literal) cube) (literal_any literal cube n)
     ]
 
--- the literals of a cube that another one has not
+-- the literals of a cube that another one lacks
 pub own_has : (one other : Cube) (literal : Literal) → Has literal (own one other) → Has literal one × (Has literal other → ⊥)
 own_has one other literal m =
     let parts = kept_has (λ (x : Literal). not (list_any (same_literal x) other)) one literal m in
@@ -157,7 +158,7 @@ module _ (names : List (List ℕ)) (once : all_different names ≡ true) (q : Li
         | inr e ↦ inr (found_literal cube literal e)
       ]
 
-  -- beside what the products share each has its own cube
+  -- besides what the products share each has its own cube
   pub own_made : (one other : Cube) → IsProperCube names one → ((literal : Literal) → Has literal one → Has literal other → ⊥) → AreApart q (row_over names one)
       → own (cube_of names (made one)) (cube_of names (made other)) ≡ one
   own_made one other proper disjoint apart =
@@ -276,7 +277,7 @@ sum_is_own name bit cover table wide once sum way =
       }
     ]
 
--- two cubes beside what two rows of some table share are such a sum
+-- two cubes besides what two rows of some table share are such a sum
 pub sum_of : (signals names : List (List ℕ)) (from : Table) (cover : NamedCover) → IsReader signals from → IsDivisorOfTwoCubes from cover → is_over names cover ≡ true → IsSum names cover
 sum_of signals names from cover reader is over =
     let among = all_pair (IsAmong signals) (cubes_of from) is.one is.other (cubes_among signals from reader) is.rows in
@@ -352,7 +353,7 @@ candidate_local signals tables name bit cover table readers (from, among, inl is
 candidate_local signals tables name bit cover table readers (from, among, inr is) wide once way =
     (table, inl refl, inr (product_is_own signals name bit cover from table wide once (all_member (IsReader signals) tables readers from among) is way))
 
--- and a table stays as it is where what fx may extract is no candidate of its own
+-- and a table stays as it is if what fx may extract is not a candidate of its own
 pub not_local_stays : (signals : List (List ℕ)) (tables : List Table) (name : List ℕ) (bit : Bool) (cover : NamedCover) (table : Table) → AllByRecursion (IsReader signals) tables → IsCandidate Fx tables cover
     → IsWide table → all_different table.inputs ≡ true → (IsCandidate Fx (table ∷ []) cover → ⊥) → divided name bit cover table ≡ table
 not_local_stays signals tables name bit cover table readers is wide once none =

@@ -1,4 +1,4 @@
--- What stands in a list that is made of each two items of another one, or of each of its items.
+-- The items of a list that is made of each two items of another one, or of each of its items.
 use Rattle.std.proofs.Common.{◌≡◌, Option, Some, None, List, [], ◌∷◌, ◌++◌, flat_map, refl, sym, ap, ◌∙◌, subst, inl, inr}
 use Rattle.std.specs.List.{cons_option, filter_map}
 use Rattle.alg_div.specs.Cubes.{Has}

@@ -36,7 +36,8 @@ pub cubes_told : {R : Type 0} (output : List ℕ) (table : CoverTable R) (names 
 cubes_told output table names rows cubes over among e =
     e ∙ (ap₂ (λ (ns : List (List ℕ)) (rs : List (List (Option Bool))). map (λ row. sorted_cube (cube_over ns row)) rs) over among ∙ cubes_named output table)
 
--- what holds of the cover's rows over the inputs holds of the places of their characters, and back
+-- what holds of the cover's rows over the inputs holds of the columns of their characters, and
+-- conversely
 moved : {R : Type 0} (table : CoverTable R) → IsOverInputs table → (P : ℕ → List (List (Option Bool)) → Type 0) → P table.cover.width table.cover.rows
     → P (length table.inputs) (map places_of (map characters_of table.cover.rows))
 moved table over P k =
@@ -69,7 +70,7 @@ pub many_kernels : {R : Type 0} (output : List ℕ) (table : CoverTable R) → I
 unfolding named
 many_kernels output table over = (moved table over (MoreKernels MAX_KERNELS), moved_back table over (MoreKernels MAX_KERNELS))
 
--- ---- what is answered where kernels are asked for
+-- ---- the result if kernels are asked for
 
 pub gkx_own : {R : Type 0} (rule : Rule) (output : List ℕ) (table : CoverTable R) (names : List (List ℕ)) (covers kernels : List Shape) (made : List NamedCover) → rule ≡ Gkx → IsOverInputs table
     → names ≡ table.inputs → covers ≡ kernels → made ≡ map (cover_over names) (rows_in covers) → AreKernels table.cover.width table.cover.rows (rows_in kernels)

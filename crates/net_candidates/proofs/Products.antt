@@ -1,4 +1,4 @@
--- Rows that a division parts: each once, and how many literals they have.
+-- Rows that a division splits: each once, and how many literals they have.
 use Rattle.std.proofs.Common.{◌≡◌, ◌⊎◌, ℕ, ◌+◌, ◌*◌, ◌≤◌, suc, Bool, Option, Some, None, List, [], ◌∷◌, ◌++◌, map, length, get_or, refl, sym, ap, ap₂, ◌∙◌, subst, inl, inr, arith}
 use Rattle.std.specs.List.{sum_by, position_from}
 use Rattle.std.proofs.lemmas.List.Sums.{sum_by-cons, sum_by-append}
@@ -16,7 +16,7 @@ use Rattle.alg_tables.proofs.Divisions.{AreApart, joined_rows}
 use Rattle.alg_tables.proofs.Quotients.{image_has, firsts_has, has_firsts, firsts_rise}
 use Rattle.net_candidates.proofs.Sums.{AreOnce, once_mapped, once_append, sum_same}
 
--- ---- rows that rise stand once
+-- ---- rows that rise occur once
 
 rises_has : (low high : ℕ) (p : List (Option Bool) → Option ℕ) (xs : List (List (Option Bool))) (x : List (Option Bool)) → Rises low high p xs → Has x xs → (place : ℕ) × (p x ≡ Some place) × (low ≤ place)
 unfolding Rises
@@ -45,7 +45,7 @@ pub quotient_once : (width : ℕ) (f d q : List (List (Option Bool))) → IsQuot
 quotient_once width f [] q h = subst AreOnce (sym h) tt
 quotient_once width f (k ∷ ks) q h = rises_once 0 (length f) (λ cube. position_from (row_eq (times cube k)) 0 f) q h.order
 
--- ---- products stand once
+-- ---- products occur once
 
 product_at : (c k k' x y : Option Bool) → (c ≡ None → ⊥) ⊎ (c ≡ None) → ((bit : Bool) → k ≡ Some bit → c ≡ None) → ((bit : Bool) → k' ≡ Some bit → c ≡ None)
     → x ≡ literal_product c k → y ≡ literal_product c k' → x ≡ y → k ≡ k'
@@ -54,7 +54,7 @@ product_at (Some bit) None None x y h apart other first second e = refl
 product_at (Some bit) (Some b) k' x y h apart other first second e = let n : Some bit ≡ None = apart b refl in absurd (cc)
 product_at (Some bit) None (Some b) x y h apart other first second e = let n : Some bit ≡ None = other b refl in absurd (cc)
 
--- one cube times rows that are apart from it tells them
+-- two rows that are apart from a cube are the same if their products with it are
 pub times_apart : (c k k' : List (Option Bool)) → AreApart c k → AreApart c k' → length k ≡ length k' → times c k ≡ times c k' → k ≡ k'
 times_apart c k k' apart other long e =
     ext k k' long (λ i. at i)
@@ -69,7 +69,7 @@ times_apart c k k' apart other long e =
         (apart i) (other i) (get_or-times c k i) (get_or-times c k' i) (ap (λ (row : List (Option Bool)). get_or row i None) e)
 
 module _ (width : ℕ) (f d q : List (List (Option Bool))) (is : IsQuotient width f d q) (wide : HasWidth width d) where
-  -- a product tells its cubes
+  -- a product determines its cubes
   pub product_tells : (c c' k k' : List (Option Bool)) → Has c q → Has c' q → Has k d → Has k' d → times c k ≡ times c' k' → (c ≡ c') × (k ≡ k')
   product_tells c c' k k' m m' n n' e =
       let term = quotient-terms width f d q is c m in
@@ -140,7 +140,7 @@ products_literals (c ∷ q) d apart =
     ap (λ (n : ℕ). length d * n) (sum_by-cons row_literals c q) ∙ mul-add (length d) (row_literals c) (literals_in_all q) in
     omega (arith, rest, first, whole, sum_by-append row_literals (products_by c d) (products q d), suc-mul (length q) (literals_in_all d))
 
--- ---- what a division parts
+-- ---- how a division splits rows
 
 -- the rows, each once, are the products and the rows that are left, each once
 pub parts_literals : (width : ℕ) (f d q : List (List (Option Bool))) → IsQuotient width f d q → HasWidth width d → AreOnce d
@@ -157,7 +157,7 @@ parts_literals width f d q is wide once =
     (elim (Has-append z (products q d) (firsts left) m) as (λ _. Has z (products q d) ⊎ Has z left) [ inl a ↦ inl a | inr b ↦ inr (firsts_has left z b) ])))
     ∙ sum_by-append row_literals (products q d) (firsts left)
 
--- ---- rows with one place more
+-- ---- rows with one more column
 
 ended_same : (xs ys : List (Option Bool)) (a b : Option Bool) → xs ++ a ∷ [] ≡ ys ++ b ∷ [] → (xs ≡ ys) × (a ≡ b)
 ended_same [] [] a b e = (refl, cc)
@@ -214,8 +214,8 @@ joined_literals width bit f d q is =
     let second : literals_in_all back ≡ literals_in_all (firsts left) + length (firsts left) * 0 = all_ended_literals (firsts left) None in
     omega (arith, whole, first, second, sum_by-append row_literals front back)
 
--- literals before and after, where no row stands twice in the divisor: what is lost are the literals of the products, what is gained those
--- of the quotient and one for each of its cubes
+-- literals before and after, if no row occurs twice in the divisor: what is lost are the literals
+-- of the products, and what is gained are those of the quotient and one for each of its cubes
 pub gain_closed : (width : ℕ) (bit : Bool) (f d q : List (List (Option Bool))) → IsQuotient width f d q → HasWidth width d → AreOnce d
     → literals_in_all (firsts (joined_rows bit f d q)) + (length d * literals_in_all q + length q * literals_in_all d) ≡ literals_in_all (firsts f) + (literals_in_all q + length q)
 gain_closed width bit f d q is wide once =

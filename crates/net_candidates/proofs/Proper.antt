@@ -1,4 +1,5 @@
--- Candidates as divisors: their cubes rise, each once, and have a literal; so what they save is known, table by table.
+-- Candidates as divisors: their cubes rise, each once, and have a literal; so what they save is
+-- known, table by table.
 use Rattle.std.proofs.Common.{◌≡◌, ◌≢◌, ℕ, ◌+◌, ◌*◌, ◌≤◌, Bool, true, Option, List, [], ◌∷◌, ◌++◌, map, length, Less, refl, sym, ap, ◌∙◌, subst, inl, inr, arith}
 use Rattle.std.specs.List.{AllByRecursion}
 use Rattle.std.specs.List.Sorted.{IsStrictlySortedBy}
@@ -72,7 +73,7 @@ pair_rises cube one other h pair =
 
 -- ---- covers whose cubes rise, each once
 
--- each cube of a cover rises and stands once, and some cube has a literal
+-- each cube of a cover rises and occurs once, and some cube has a literal
 pub record IsLiteral (cover : NamedCover) : Type 0 where
   pub rise : (cube : Cube) → Has cube cover → Rising cube
   pub once : AreOnce cover
@@ -187,7 +188,8 @@ module _ (rule : Rule) (circuit : Circuit) (name : List ℕ) (cover : NamedCover
   divisor_literals : is_over table.inputs cover ≡ true → literals_in_all (divisor name true cover table) ≡ literals_in cover
   divisor_literals over = rows_over_literals table.inputs cover divisible.once (candidate_usable rule (given circuit) circuit.tables cover (tables_read circuit sound) is).apart over
 
-  -- the literals of a table that is divided by a candidate: of the name nothing is left on the right
+  -- the literals of a table that is divided by a candidate; the right side does not depend on the
+  -- name
   pub candidate_closed : IsDivided name true cover table
       → literals_of_table (divided name true cover table) + (length cover * literals_in_all (found name true cover table) + length (found name true cover table) * literals_in cover)
       ≡ literals_in_all (firsts (rows_of name true cover table)) + (literals_in_all (found name true cover table) + length (found name true cover table))

@@ -1,4 +1,5 @@
--- A candidate is extracted: the circuit stays sound, no signal goes, and each keeps its value; so it is from step to step.
+-- A candidate is extracted: the circuit stays sound, no signal is removed, and each keeps its
+-- value; so does each sequence of steps.
 use Rattle.std.proofs.Common.{ℕ, true, List, sym, ap, ◌∙◌, subst}
 use Rattle.sis_base.specs.Written.{is_word}
 use Rattle.circuit_model.specs.Names.{has}

@@ -1,4 +1,4 @@
--- Two tables with rows that share two literals or more: of any name there is another one that both read.
+-- Two tables with rows that share two literals or more: both read a name other than any given one.
 use Rattle.std.proofs.Common.{◌≡◌, ◌≤◌, ℕ, Bool, true, false, cond, List, [], ◌∷◌, length, bytes_eq, refl, sym, ◌∙◌, subst, inl, inr, arith}
 use Rattle.std.specs.List.{list_all, list_any}
 use Rattle.std.proofs.lemmas.Bool.{and_parts, or_parts, or_cases, false≢true}
@@ -45,13 +45,13 @@ shared_read names (literal ∷ one) other over = cases (list_any (same_literal l
     cases true h rest = rw (same_read names other literal over h) rest
     cases false h rest = rest
 
--- two tables read another name besides a given one
+-- two tables read a name other than a given one
 pub record IsReadBesides (one other : Table) (name another : List ℕ) : Type 0 where
   pub apart : another ≡ name → ⊥
   pub by_one : has one.inputs another ≡ true
   pub by_other : has other.inputs another ≡ true
 
--- of two literals of different names one has another name than a given one
+-- of two literals of different names one has a name other than a given one
 besides : (t u : Table) (cube : Cube) (name : List ℕ) → 2 ≤ length cube → all_different (names_of cube) ≡ true → list_all (λ (literal : Literal). has t.inputs literal.name) cube ≡ true
     → list_all (λ (literal : Literal). has u.inputs literal.name) cube ≡ true → (another : List ℕ) × IsReadBesides t u name another
 besides t u [] name two apart over over' = absurd (omega (arith, two))
@@ -81,7 +81,8 @@ besides t u (one ∷ (other ∷ cube)) name two apart over over' =
       )
     ]
 
--- where a row of one table and a row of another share two literals or more, both tables read a name besides any given one
+-- if a row of one table and a row of another share two literals or more, both tables read a name
+-- other than any given one
 pub shared_besides : (t u : Table) (one other : Cube) (name : List ℕ) → all_different t.inputs ≡ true → Has one (cubes_of t) → Has other (cubes_of u) → 2 ≤ length (shared one other)
     → (another : List ℕ) × IsReadBesides t u name another
 shared_besides t u one other name once m n two =

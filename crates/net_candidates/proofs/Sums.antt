@@ -1,4 +1,5 @@
--- Sums over lists: of images, of lists with the same items, each once, and of a list of which some items change.
+-- Sums over lists: of images, of lists with the same items, each once, and of a list of which some
+-- items change.
 use Rattle.std.proofs.Common.{◌≡◌, ◌⊎◌, ℕ, ◌+◌, Bool, true, false, cond, List, [], ◌∷◌, ◌++◌, map, filter, refl, sym, ap, ap₂, ◌∙◌, subst, inl, inr, arith}
 use Rattle.std.specs.List.{sum_by}
 use Rattle.std.proofs.lemmas.List.Sums.{sum_by-cons, sum_by-append}
@@ -15,7 +16,8 @@ pub sum_where : {X : Type 0} (f g : X → ℕ) (xs : List X) → ((x : X) → f 
 sum_where f g [] h = refl
 sum_where f g (x ∷ xs) h = sum_by-cons f x xs ∙ (ap₂ (λ (m n : ℕ). m + n) (h x) (sum_where f g xs h) ∙ sym (sum_by-cons g x xs))
 
--- the sum after a turn and the old summands of what changes are the sum before and their new summands
+-- the sum after a change and the old summands of what changes are the sum before and their new
+-- summands
 pub sum_changed : {X : Type 0} (g : X → ℕ) (turn : X → X) (changed : X → Bool) (xs : List X) → ((x : X) → changed x ≡ false → turn x ≡ x)
     → sum_by g (map turn xs) + sum_by g (filter changed xs) ≡ sum_by g xs + sum_by g (map turn (filter changed xs))
 sum_changed g turn changed [] stays = refl
@@ -29,7 +31,7 @@ sum_changed {X} g turn changed (x ∷ xs) stays = cases (changed x) refl (sum_ch
         let same : g (turn x) ≡ g x = ap g (stays x e) in
         omega (arith, rest, same, sum_by-cons g (turn x) (map turn xs), sum_by-cons g x xs)
 
--- ---- lists in which each item stands once
+-- ---- lists in which each item occurs once
 
 abbrev pub AreOnce : {X : Type 0} → List X → Type 0
 AreOnce [] = Unit {0}
@@ -43,7 +45,7 @@ once_kept test (x ∷ xs) h = cases (test x) (once_kept test xs h.1)
     cases true rest = (λ m. h.0 (kept_has test xs x m).0, rest)
     cases false rest = rest
 
--- images are different where what they are images of is
+-- images are different if their originals are
 pub once_mapped : {X Y : Type 0} (f : X → Y) (xs : List X) → ((x y : X) → Has x xs → Has y xs → f x ≡ f y → x ≡ y) → AreOnce xs → AreOnce (map f xs)
 once_mapped f [] apart h = tt
 once_mapped f (x ∷ xs) apart h = (
@@ -76,7 +78,7 @@ pair_first {X} first xs x y e m =
     let (between, after, split) = has_split y xs m in
     record { before = []; between = between; after = after; among = ap₂ (λ (z : X) (zs : List X). z ∷ zs) (sym e) split }
 
--- two items are the same, or one stands before the other
+-- two items are the same, or one comes before the other
 pub same_or_pair : {X : Type 0} (xs : List X) (x y : X) → Has x xs → Has y xs → (x ≡ y) ⊎ (ArePair xs x y ⊎ ArePair xs y x)
 same_or_pair [] x y m n = absurd m
 same_or_pair (first ∷ xs) x y (inl e) (inl k) = inl (e ∙ sym k)

@@ -1,4 +1,4 @@
--- The literals of a tidy table: those of its rows, each once.
+-- The literals of a table in normal form: those of its rows, each once.
 use Rattle.std.proofs.Common.{◌≡◌, ℕ, ◌+◌, suc, Bool, true, false, not, cond, Option, Some, None, List, [], ◌∷◌, map, filter, length, refl, sym, ap, ◌∙◌, subst, arith}
 use Rattle.std.specs.List.{sum_by, list_any}
 use Rattle.std.proofs.lemmas.Bool.{or_parts}
@@ -18,7 +18,7 @@ use Rattle.circuit_tables.proofs.Tidied.{row_same, row_itself, once_all, chosen_
 use Rattle.net_candidates.proofs.Sums.{sum_mapped, sum_where}
 use Rattle.net_candidates.proofs.Products.{literals_in_all}
 
--- ---- characters and places
+-- ---- characters and columns
 
 -- 1 for a literal, else 0
 counted : Tri → ℕ
@@ -48,7 +48,7 @@ table_literals table = ap (sum_by literals_of_row) (sym (all_characters_back tab
 
 -- ---- inputs without a literal
 
--- 1 where the first character is a literal, else 0
+-- 1 if the first character is a literal, else 0
 front_count : List Tri → ℕ
 front_count row = counted (front_place row)
 
@@ -132,9 +132,9 @@ once_characters (row ∷ rows) =
     ap (λ (xs : List (List Tri)). characters_of row ∷ xs)
     (ap (filter (λ other. not (same_row (characters_of row) other))) (once_characters rows) ∙ filter_characters row (firsts rows))
 
--- ---- a tidy table
+-- ---- a table in normal form
 
--- a table that names each input once, and has a row or phase 1
+-- a table that lists each input once, and has a row or phase 1
 pub tidied_literals : (table : Table) → IsWide table → all_different table.inputs ≡ true → some_row_or_phase_one table.rows table.phase ≡ true
     → literals_of_table (tidied table) ≡ literals_in_all (firsts (map places_of table.rows))
 unfolding literals_of_table narrowed

@@ -1,5 +1,5 @@
--- What candidates save, as totals over the tables: where a total is exact at each candidate that may be extracted, it tells which one is
--- the best, and when none saves.
+-- What candidates save, as totals over the tables: if a total is exact for each candidate that may
+-- be extracted, it says which is the best, and when none saves.
 use Rattle.std.proofs.Common.{◌≡◌, ℕ, ◌+◌, ◌-◌, ◌<◌, ◌≤◌, true, List, [], ◌∷◌, Less, refl, sym, subst, inl, inr, arith}
 use Rattle.std.specs.List.{sum_by, AllByRecursion}
 use Rattle.std.proofs.lemmas.List.Sums.{sum_by-cons}
@@ -41,7 +41,7 @@ literals_balanced rule circuit name cover sound new is =
     sum_lost literals_of_table (λ (table : Table). literals_of_table (divided name true cover table)) circuit.tables (λ table m. candidate_small rule circuit name cover sound new is table m) in
     omega (arith, sum, literals_extracted circuit name cover, cover_table_literals name cover (candidate_usable rule (given circuit) circuit.tables cover (tables_read circuit sound) is).apart)
 
--- a total that is exact at each candidate that may be extracted
+-- a total that is exact for each candidate that may be extracted
 abbrev pub IsExact : Rule → Circuit → List ℕ → (NamedCover → ℕ) → Type 0
 IsExact rule circuit name total =
     (cover : NamedCover) → IsOpen rule circuit name cover → literals_after circuit name cover + total cover ≡ literals_of circuit + literals_in cover
@@ -61,7 +61,8 @@ level_from after total own after' total' own' before e e' h = omega (arith, e, e
 none_from : (after total before own : ℕ) → after + total ≡ before + own → total ≤ own → before ≤ after
 none_from after total before own e h = omega (arith, e, h)
 
--- the best candidate by a total: it saves, none saves more, and of those that save as much it is the first
+-- the best candidate by a total: it saves, none saves more, and of those that save as much it is
+-- the first
 pub best_from : (rule : Rule) (circuit : Circuit) (name : List ℕ) (total : NamedCover → ℕ) (cover : NamedCover) → IsExact rule circuit name total → IsOpen rule circuit name cover → literals_in cover < total cover
     → ((other : NamedCover) → IsOpen rule circuit name other → total other + literals_in cover ≤ total cover + literals_in other)
     → ((other : NamedCover) → IsOpen rule circuit name other → total other + literals_in cover ≡ total cover + literals_in other → cover_cmp other cover ≡ Less → ⊥)
@@ -78,7 +79,7 @@ best_from rule circuit name total cover exact may saves most first = record {
       (exact cover may) (exact other is) same);
 }
 
--- where by a total none saves, a circuit is done
+-- if by a total none saves, a circuit is done
 pub done_from : (rule : Rule) (circuit : Circuit) (name : List ℕ) (total : NamedCover → ℕ) → AllByRecursion (IsListable rule) circuit.tables → IsNewName circuit name
     → IsExact rule circuit name total → ((cover : NamedCover) → IsOpen rule circuit name cover → total cover ≤ literals_in cover) → IsDone rule circuit
 done_from rule circuit name total listable new exact none = record {

@@ -39,7 +39,7 @@ shared_turned one other first second =
     (IsStrictlySortedBy-filter literal_cmp (λ (l : Literal). list_any (same_literal l) one) other second)
     (turned_has one other) (turned_has other one)
 
--- so cubes of tables do
+-- so do cubes of tables
 pub rows_turned : (t u : Table) (one other : Cube) → Has one (cubes_of t) → Has other (cubes_of u) → shared one other ≡ shared other one
 rows_turned t u one other m n =
     shared_turned one other (all_member Rising (cubes_of t) (cubes_rise t) one m) (all_member Rising (cubes_of u) (cubes_rise u) other n)

@@ -1,4 +1,4 @@
--- What two cubes and two literals make, and what is listed of it.
+-- What two cubes and two literals make, and the list of all of it.
 use Rattle.std.proofs.Common.{◌≡◌, ◌≢◌, ◌≤◌, ◌↔◌, Bool, true, false, if◌then◌else◌, Option, Some, None, List, [], ◌∷◌, ◌++◌, length, flat_map, refl, sym, ap, ◌∙◌, subst, inl, inr, ltb, arith}
 use Rattle.std.proofs.lemmas.Bool.{le-ltb, ltb-false}
 use Rattle.alg_div.specs.Cubes.{Has}

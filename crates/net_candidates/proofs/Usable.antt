@@ -1,4 +1,4 @@
--- Candidates are covers of signals, in no cube of which a name stands twice.
+-- Candidates are covers of signals, in no cube of which a name occurs twice.
 use Rattle.std.proofs.Common.{◌≡◌, ℕ, Bool, true, false, cond, Option, List, [], ◌∷◌, ◌++◌, map, filter, bytes_eq, refl, sym, ◌∙◌, subst, inl, inr}
 use Rattle.std.specs.List.{list_all, AllByRecursion}
 use Rattle.std.proofs.lemmas.Bool.{and_parts, and_from, or_parts}
@@ -63,7 +63,7 @@ among_end : (signals : List (List ℕ)) (before cube : Cube) → IsAmong signals
 among_end signals [] cube among = among
 among_end signals (literal ∷ before) cube among = among_end signals before cube (among_tail signals literal (before ++ cube) among)
 
--- a name that no literal has, none has of those that a test leaves
+-- if no literal of a cube has a name, none that passes a test has it
 lacks_filtered : (test : Literal → Bool) (cube : Cube) (name : List ℕ) → has (names_of cube) name ≡ false → has (names_of (filter test cube)) name ≡ false
 lacks_filtered test [] name h = refl
 lacks_filtered test (literal ∷ cube) name h =
@@ -104,7 +104,7 @@ among_pair signals cube one other among pair =
 
 -- ---- the cubes of tables
 
--- a table names each input once, and reads signals
+-- a table lists each input once, and reads signals
 pub record IsReader (signals : List (List ℕ)) (table : Table) : Type 0 where
   pub once : all_different table.inputs ≡ true
   pub live : (name : List ℕ) → has table.inputs name ≡ true → has signals name ≡ true
@@ -148,7 +148,7 @@ tables_read circuit sound = are_readers (given circuit) circuit.tables sound.tab
 
 -- ---- candidates
 
--- a cover of signals, in no cube of which a name stands twice
+-- a cover of signals, in no cube of which a name occurs twice
 pub record IsUsable (signals : List (List ℕ)) (cover : NamedCover) : Type 0 where
   pub apart : all_apart cover ≡ true
   pub over : is_over signals cover ≡ true

@@ -62,7 +62,7 @@ pub each_all : (others cubes : List Cube) (i : ℕ) (old new : List NamedCover) 
     → HasGained (shared_by_each others cubes) old new
 each_all others cubes i old new le k = subst (λ (xs : List Cube). HasGained (shared_by_each others xs) old new) (take_all i cubes le) k
 
--- ---- what is answered
+-- ---- the result
 
 with_others : (cubes others : List Cube) (cover : NamedCover) → Has cover (shared_by_each others cubes) → IsSharedWith cubes others cover
 with_others cubes others cover m =

@@ -28,7 +28,7 @@ pub record ArePair {X : Type 0} (items : List X) (first second : X) : Type 0 whe
 abbrev pub same_literal : Literal → Literal → Bool
 same_literal one other = bytes_eq one.name other.name && beq one.bit other.bit
 
--- the literals of a cube that another one has too, and those that it has not
+-- the literals of a cube that another one has too, and those that it lacks
 abbrev pub shared : Cube → Cube → Cube
 shared one other = filter (λ (literal : Literal). list_any (same_literal literal) other) one
 

@@ -1,8 +1,8 @@
--- Extraction: the candidate that saves most literals becomes a table, by which all tables that
--- stood before are divided; step by step, until none saves any. Source: Brayton, Rudell,
--- Sangiovanni-Vincentelli and Wang, "MIS: A Multiple-Level Logic Optimization System" (1987); the
--- SIS report (UCB/ERL M92/41), `fx`, `gkx` and `gcx`. The order among candidates that save as much,
--- and the limits, are the project's own.
+-- Extraction: the candidate that saves most literals becomes a table, by which all earlier tables
+-- are divided; step by step, until none saves any. Source: Brayton, Rudell, Sangiovanni-Vincentelli
+-- and Wang, "MIS: A Multiple-Level Logic Optimization System" (1987); the SIS report (UCB/ERL
+-- M92/41), `fx`, `gkx` and `gcx`. The order among candidates that save as much, and the limits, are
+-- the project's own.
 use Rattle.std.specs.Prelude.{◌≡◌, ◌⊎◌, ℕ, ◌<◌, ◌≤◌, true, List, map, length}
 use Rattle.std.specs.List.{AllByRecursion}
 use Rattle.std.specs.declared.cmp.Ordering.TheVariants.{Less}
@@ -26,7 +26,7 @@ use Rattle.sis_base.specs.declared.limits.TheConstants.{MAX_INPUTS, MAX_KERNELS,
 abbrev pub extracted : Circuit → List ℕ → NamedCover → Circuit
 extracted circuit name cover = with_split circuit (divided name true cover) (cover_table name cover)
 
--- a table stays as it is, or has at most `MAX_INPUTS` inputs once it is divided
+-- a table stays as it is, or has at most `MAX_INPUTS` inputs after it is divided
 abbrev pub IsNarrow : List ℕ → NamedCover → Table → Type 0
 IsNarrow name cover table = (divided name true cover table ≡ table) ⊎ (length (divided name true cover table).inputs ≤ MAX_INPUTS)
 
@@ -41,13 +41,12 @@ pub record IsOpen (rule : Rule) (circuit : Circuit) (name : List ℕ) (cover : N
 abbrev pub literals_after : Circuit → List ℕ → NamedCover → ℕ
 literals_after circuit name cover = literals_of (extracted circuit name cover)
 
--- the candidate that leaves fewest literals, and fewer than there are; of those that leave as many
--- the first
+-- the candidate that leaves fewest literals, and fewer than before; the first of several
 abbrev pub IsBest : Rule → Circuit → List ℕ → NamedCover → Type 0
 IsBest rule circuit name cover =
     IsBestChoice (IsOpen rule circuit name) (λ other one. cover_cmp other one ≡ Less) (literals_after circuit name) (literals_of circuit) cover
 
--- where kernels are the candidates: a table has more than `MAX_KERNELS` of them
+-- if kernels are the candidates: a table has more than `MAX_KERNELS` of them
 abbrev pub HasManyKernels : Rule → Table → Type 0
 HasManyKernels Gkx table = MoreKernels MAX_KERNELS (length table.inputs) (map places_of table.rows)
 HasManyKernels rule table = ⊥
@@ -56,7 +55,7 @@ HasManyKernels rule table = ⊥
 abbrev pub IsListable : Rule → Table → Type 0
 IsListable rule table = HasManyKernels rule table → ⊥
 
--- the best candidate of a circuit, under the name that is free
+-- the best candidate of a circuit, under the least free name
 pub record IsNext (rule : Rule) (circuit : Circuit) (name : List ℕ) (cover : NamedCover) : Type 0 where
   pub listable : AllByRecursion (IsListable rule) circuit.tables
   pub free : IsNewName circuit name
@@ -74,8 +73,8 @@ pub record IsStep (rule : Rule) (circuit new : Circuit) : Type 0 where
 abbrev pub IsReached : Rule → Circuit → Circuit → Type 0
 IsReached rule circuit new = Reaches (IsStep rule) circuit new
 
--- the finished form: all candidates can be listed, and none saves a literal under the name that is
--- free
+-- the finished form: all candidates can be listed, and none saves a literal under the least free
+-- name
 pub record IsDone (rule : Rule) (circuit : Circuit) : Type 0 where
   pub listable : AllByRecursion (IsListable rule) circuit.tables
   pub none : (name : List ℕ) → IsNewName circuit name → NoneSaves (IsOpen rule circuit name) (literals_after circuit name) (literals_of circuit)
@@ -95,12 +94,12 @@ pub record IsOver (rule : Rule) (circuit : Circuit) : Type 0 where
 abbrev pub IsFull : Rule → Circuit → Type 0
 IsFull rule circuit = HasStop (IsStep rule) (IsOver rule) circuit
 
--- the first of some tables with too many kernels has a name
+-- the first of some tables with too many kernels drives a name
 pub record IsFirstMany (rule : Rule) (tables : List Table) (name : List ℕ) : Type 0 where
   pub table : Table
   pub first : IsFirstFailing (IsListable rule) (HasManyKernels rule) tables table
   pub named : table.output ≡ name
 
--- steps lead to a circuit whose first table with too many kernels is that of a name
+-- steps lead to a circuit whose first table with too many kernels drives a name
 abbrev pub IsUnlistable : Rule → Circuit → List ℕ → Type 0
 IsUnlistable rule circuit name = HasStop (IsStep rule) (λ last. IsFirstMany rule last.tables name) circuit

@@ -1,4 +1,4 @@
--- Why candidates are not listed where kernels are not.
+-- Why candidates are not listed if kernels are not.
 -- Source: the project's own.
 use Rattle.alg_kernel.specs.declared.search.KernelFault.{KernelFault}
 use Rattle.alg_kernel.specs.declared.search.KernelFault.TheVariants.{KernelLimit, Memory as KernelMemory}

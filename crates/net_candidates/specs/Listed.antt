@@ -1,5 +1,5 @@
 -- The candidates of one table, and those that cubes share: what extraction may choose from, split
--- by where it comes from.
+-- by origin.
 -- Source: Rajski and Vasudevamurthy (IEEE Transactions on CAD 11, 1992); Brayton and McMullen, "The
 -- Decomposition and Factorization of Boolean Expressions" (1982); De Micheli, "Synthesis and
 -- Optimization of Digital Circuits", chapter 8.

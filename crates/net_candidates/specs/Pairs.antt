@@ -1,6 +1,6 @@
 -- What each two items of a list make, the earlier one first, what two cubes and two literals make,
--- and what cubes share. No public clause needs these definitions: they say by what way the
--- candidates are listed. Source: Rajski and Vasudevamurthy (IEEE Transactions on CAD 11, 1992).
+-- and what cubes share. No public clause needs these definitions: they say how the candidates are
+-- listed. Source: Rajski and Vasudevamurthy (IEEE Transactions on CAD 11, 1992).
 use Rattle.std.specs.Prelude.{◌≡◌, ◌⊎◌, if◌then◌else◌, Bool, Option, Some, None, ℕ, List, [], ◌∷◌, ◌++◌, flat_map, length, slice_get}
 use Rattle.std.specs.List.{filter_map, list_all, list_any}
 use Rattle.std.proofs.Common.{ltb}
@@ -18,7 +18,7 @@ sum_from [] right = None
 sum_from (literal ∷ left) [] = None
 sum_from (literal ∷ left) (other ∷ right) = Some (sorted cube_cmp ((literal ∷ left) ∷ (other ∷ right) ∷ []))
 
--- the sum of what each of two cubes has that the other has not
+-- the sum of what each of two cubes has that the other lacks
 abbrev pub sum_of : Cube → Cube → Option NamedCover
 sum_of one other = sum_from (own one other) (own other one)
 

@@ -19,8 +19,8 @@ told spots literal = places_in (get same_literal spots literal)
 abbrev pub many : {X : Type 0} → (X → Bool) → List X → ℕ
 many test items = length (filter test items)
 
--- an index is listed under each literal as often as a cube has it, and what was listed before still
--- is
+-- an index is listed under each literal at least as often as a cube has it, and what was listed
+-- before still is
 pub record AreTold (cube : Cube) (place : ℕ) (old new : Literal → List ℕ) : Type 0 where
   pub here : (other : Literal) → many (λ literal. same_literal literal other) cube ≤ many (λ at. at == place) (new other)
   pub still : (other : Literal) (place : ℕ) → many (λ at. at == place) (old other) ≤ many (λ at. at == place) (new other)

@@ -9,9 +9,10 @@
 //! has the steps and the end; `laws` says what they keep.
 //!
 //! Promised of the lists (`specs/Listed.antt`): exactly the candidates of a table; `ManyKernels`
-//! exactly if a table has more kernels than are listed; exactly the cubes that some cubes share
-//! with one another or with others; and whether two share exactly a given one. `parts` has what two
-//! cubes or two literals make (`specs/Parts.antt`). Any other error is want of memory.
+//! only if the table has more kernels than are listed, and no list then; exactly the cubes that
+//! some cubes share with one another or with others; and whether two share exactly a given one.
+//! `parts` has what two cubes or two literals make (`specs/Parts.antt`). Any other error is a lack
+//! of memory.
 #![tactic(auto)]
 
 mod cubes;

@@ -1,8 +1,8 @@
 //! The cubes that some cubes share with others and with one another.
 //!
 //! Source: the project's own. Promised: the list has exactly the cubes of two literals or more that
-//! one of the cubes shares with one of the others, or that two of the cubes share. Besides, which
-//! no clause says: each is listed once. Each of the cubes is compared with each of the others.
+//! one of the cubes shares with one of the others, or that two of the cubes share. Each is listed
+//! once, and each of the cubes is compared with each of the others; no clause says so.
 
 ghost use Rattle.std.specs.Prelude.{◌⊎◌, ◌↔◌, IfOk, OnOk};
 ghost use Rattle.std.specs.List.{filter_map};

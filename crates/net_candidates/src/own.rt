@@ -4,8 +4,8 @@
 //! factorization of Boolean expressions" (IEEE Transactions on CAD 11, 1992), for `fx`; Brayton and
 //! McMullen, "The Decomposition and Factorization of Boolean Expressions" (1982), for `gkx`. Under
 //! `Fx` these are double-cube divisors and products of two literals, under `Gkx` kernels, under
-//! `Gcx` none. Callers rely on `IsOwn`: exactly these candidates, perhaps more than once, and
-//! `ManyKernels` exactly if there are more than `MAX_KERNELS` kernels.
+//! `Gcx` none. Callers rely on `IsOwn`: exactly these candidates, perhaps more than once, on a list
+//! only if there are at most `MAX_KERNELS` kernels, and on `ManyKernels` only if there are more.
 
 ghost use Rattle.std.specs.Prelude.{◌≡◌, ◌↔◌, ◌++◌, ℕ, List, map, flat_map, length, IfOk, IfErr, OnOk};
 ghost use Rattle.alg_div.specs.Cubes.{Has};
@@ -31,7 +31,7 @@ use cube_cover::{Cover, Row};
 use net_core::CoverTable;
 use std::alloc::{AllocError, Global};
 
-// The sum of what each of two cubes has that the other has not.
+// The sum of what each of two cubes has that the other lacks.
 struct Sums;
 
 impl Pairing<Cube> for Sums {
@@ -106,8 +106,8 @@ fn covers_over<R: Row>(
 }
 
 /// The candidates that a table gives by itself under a rule: sums of two cubes and products of two
-/// literals, or kernels; none under the third rule. `ManyKernels` exactly if kernels are asked for
-/// and there are more than `MAX_KERNELS`.
+/// literals, or kernels; none under the third rule. If kernels are asked for and there are more
+/// than `MAX_KERNELS`, the result is `ManyKernels`, unless memory runs out first.
 pub fn own_candidates<R: Row>(
     alloc: Global,
     rule: Rule,

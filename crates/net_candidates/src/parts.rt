@@ -32,7 +32,7 @@ pub fn shared_literals(alloc: Global, one: &Cube, other: &Cube) -> Result<Cube, 
     Ok(Sequence::from_vec(literals))
 }
 
-/// The literals of a cube that another one has not, in the cube's order.
+/// The literals of a cube that another one lacks, in the cube's order.
 pub fn own_literals(alloc: Global, one: &Cube, other: &Cube) -> Result<Cube, AllocError>
     ensures { IfOk result (λ cube. cube ≡ own one.now other.now) }
 {
@@ -45,7 +45,7 @@ pub fn own_literals(alloc: Global, one: &Cube, other: &Cube) -> Result<Cube, All
     Ok(Sequence::from_vec(literals))
 }
 
-/// The sorted cover of what each of two cubes has that the other has not, if both have something.
+/// The sorted cover of what each of two cubes has that the other lacks, if both have something.
 pub fn sum_of_two(alloc: Global, one: &Cube, other: &Cube) -> Result<Option<NamedCover>, AllocError>
     ensures { IfOk result (λ found. IsSumOfTwo one.now other.now found) }
 {

@@ -1,8 +1,8 @@
 //! The cubes that two of some cubes share.
 //!
 //! Promised: the list has exactly the cubes of two literals or more that two of the cubes share.
-//! Besides, which no clause says: each is listed once, and cubes that have each literal once are
-//! compared only if they have two literals in common, so not if they have none.
+//! Each is listed once, and cubes that have each literal once are compared only if they have two
+//! literals in common; no clause says so.
 
 ghost use Rattle.std.specs.Prelude.{◌≡◌, ◌⊎◌, ◌↔◌, IfOk, OnOk};
 ghost use Rattle.std.specs.List.{filter_map};

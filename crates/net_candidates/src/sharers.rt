@@ -1,9 +1,8 @@
 //! Whether two of some cubes share exactly a given one.
 //!
-//! Source: the project's own. Promised: the answer is true exactly if two of the cubes share the
-//! one cube of the cover, and that has two literals or more. Besides, which no clause says: two
-//! cubes are compared only if both have all its literals, and none after the first two that share
-//! it.
+//! Source: the project's own. Promised: the result is true exactly if two of the cubes share the
+//! one cube of the cover, and that has two literals or more. Two cubes are compared only if both
+//! have all its literals, and none after the first two that share it; no clause says so.
 
 ghost use Rattle.std.specs.Prelude.{◌≡◌, ◌↔◌, ◌∷◌, [], map, filter, IfOk, IsTrue};
 ghost use Rattle.net_candidates.specs.Candidates.{shared};

@@ -1,6 +1,7 @@
 //! For each literal the indices of the cubes that have it, of the cubes listed so far.
 //!
-//! Source: the project's own. An index is listed under a literal as often as the cube there has it.
+//! Source: the project's own. An index is listed under a literal at least as often as the cube
+//! there has it; that it is listed no oftener no clause says.
 
 ghost use Rattle.std.specs.Prelude.{◌≡◌, ◌++◌, ◌∷◌, [], None, Some, if◌then◌else◌, OnOk};
 ghost use Rattle.indexmap.specs.IndexMap.{get};

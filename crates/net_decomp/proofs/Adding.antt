@@ -1,4 +1,5 @@
--- The tables of parts are added: the circuit stays sound, each signal keeps its table, and each part's table stands under its name.
+-- The tables of parts are added: the circuit stays sound, each signal keeps its table, and each
+-- part's table drives its name.
 use Rattle.std.proofs.Common.{◌≡◌, ℕ, suc, Bool, true, false, cond, Option, Some, List, [], ◌∷◌, ◌++◌, map, length, bytes_eq, refl, sym, ap, ap₂, ◌∙◌, subst, inl, inr}
 use Rattle.std.specs.List.{AllByRecursion}
 use Rattle.std.specs.Option.{option_or}
@@ -81,7 +82,7 @@ part_fits circuit table part name sound at wide = record {
   shaped = part_shaped table part name wide;
 }
 
--- what drives a signal drives it when a table is added; the new table drives its own
+-- what drives a signal still drives it after a table is added; the new table drives its own
 pub added_kept : (circuit : Circuit) (new : Table) (signal : List ℕ) (table : Table) → driver circuit.tables signal ≡ Some table → driver (with_added circuit new).tables signal ≡ Some table
 unfolding with_added
 added_kept circuit new signal table at =
@@ -103,14 +104,14 @@ part_extended circuit table part name sound at wide new =
     (ap (λ (x : List ℕ). has (control_of circuit.timing) x) (part_output table part name) ∙ free.1)
     (part_fits circuit table part name sound at wide)
 
--- the tables of parts stand under names
+-- the tables of parts drive names
 abbrev pub AreFound : List Table → Table → List (List (List (Option Bool))) → List (List ℕ) → Type 0
 AreFound tables table [] [] = Unit {0}
 AreFound tables table [] (name ∷ names) = ⊥
 AreFound tables table (part ∷ parts) [] = ⊥
 AreFound tables table (part ∷ parts) (name ∷ names) = (driver tables name ≡ Some (part_table table part name)) × AreFound tables table parts names
 
--- what is so after the tables of parts were added
+-- what holds after the tables of parts were added
 pub record HoldsParts (table : Table) (parts : List (List (List (Option Bool)))) (names : List (List ℕ)) (circuit new : Circuit) : Type 0 where
   pub extended : IsExtended circuit new
   pub kept : (signal : List ℕ) (other : Table) → driver circuit.tables signal ≡ Some other → driver new.tables signal ≡ Some other

@@ -1,4 +1,5 @@
--- Steps at a place, and from place to place: where they lead, and where there is no room.
+-- Steps at one index, and from index to index: the networks they lead to, and when there is no
+-- room.
 use Rattle.std.proofs.Common.{◌≡◌, ℕ, ◌+◌, ◌<◌, ◌≤◌, ◌^◌, Err, Some, length, refl, sym, ap, ◌∙◌, subst, inl, inr, arith}
 use Rattle.std.proofs.lemmas.Bool.{cases_order}
 use Rattle.circuit_model.specs.Soundness.{IsSound}
@@ -19,7 +20,7 @@ use Rattle.net_decomp.specs.Decompose.{HasDecomposed}
 use Rattle.net_decomp.specs.Cursor.{IsPartedAt, IsOverAt, AreDone, IsAlong}
 use Rattle.net_decomp.proofs.Slots.{among, all_standing}
 
--- the table at a place is next, where those below are done
+-- the table at an index is next, if those before it are done
 next_at_place : (rule : Rule) (place : ℕ) (now : Placed) (table : Table) (parting : Parting) → AreDone rule place now.slots → table_at now.slots place ≡ Some table → IsDecomposable rule table parting
     → IsNext rule (circuit_of now) table parting
 next_at_place rule place now table parting done there due =
@@ -42,7 +43,7 @@ along_begin rule place now sound done = record {
   bounds = λ bounds. bounds;
 }
 
--- a step leaves few tables and latches where there were few
+-- if there are fewer than 2^29 tables and latches before a step, there are afterwards
 room_nodes : (circuit new : Circuit) → new ≡ with_tables circuit new.tables → HadRoom circuit new → length circuit.tables + length circuit.latches < 2 ^ 29 → length new.tables + length new.latches < 2 ^ 29
 room_nodes circuit new rest (inl same) few =
     let latches : length new.latches ≡ length circuit.latches = ap (λ (c : Circuit). length c.latches) rest in
@@ -50,7 +51,7 @@ room_nodes circuit new rest (inl same) few =
     omega (arith, same, latches, others, few)
 room_nodes circuit new rest (inr room) few = omega (arith, room)
 
--- one step more
+-- one more step
 pub along_more : (rule : Rule) (place : ℕ) (before now new : Placed) → IsAlong rule place before now → IsPartedAt rule place now new → IsAlong rule place before new
 along_more rule place before now new along parted =
     let step = parted_step rule place now new along.done parted in
@@ -65,7 +66,7 @@ along_more rule place before now new along parted =
       };
     }
 
--- one place more
+-- one more index
 pub along_done : (rule : Rule) (place : ℕ) (before now : Placed) → IsAlong rule place before now → ((table : Table) → table_at now.slots place ≡ Some table → IsDone rule table) → IsAlong rule (place + 1) before now
 along_done rule place before now along this = record {
   reached = along.reached;
@@ -106,7 +107,7 @@ along_full rule place before now along full = record {
   stops = full.stops;
 }
 
--- all places
+-- all indices
 pub along_all : (rule : Rule) (place : ℕ) (before now : Placed) → IsAlong rule place before now → length now.slots ≤ place → IsDecomposed rule (circuit_of before) (circuit_of now)
 along_all rule place before now along past = record {
   reached = along.reached;

@@ -1,6 +1,7 @@
--- How large tables are after a step, and after steps that follow one another: rows and inputs of the parts are no more than those of
--- the table; the parted table has at most one input more for each part, and rows as `Counts` says. A step adds a node for each part, and
--- where it adds some there is room for all.
+-- The sizes of tables after a step, and after steps that follow one another: parts have no more
+-- rows and inputs than the table; the rewritten table has at most one input more for each part, and
+-- rows as `Counts` says. A step adds a node for each part, and if it adds some there is room for
+-- all.
 use Rattle.std.proofs.Common.{◌≡◌, ◌≢◌, ℕ, ◌+◌, ◌<◌, ◌≤◌, ◌^◌, Bool, true, false, cond, Option, List, [], ◌∷◌, ◌++◌, map, length, bytes_eq, refl, sym, ap, ◌∙◌, subst, arith, inl, inr, ◌⊎◌}
 use Rattle.std.specs.List.{AllByRecursion}
 use Rattle.std.proofs.lemmas.Bool.{cases_lt}
@@ -49,7 +50,7 @@ tidied_within table shaped =
     (sym (phase_kept (folded table) (shaped_some (folded table).rows (folded table).phase (folded_shaped table shaped).1)))
     (omega (arith, small.0, folded_row_count table shaped), omega (arith, small.1, folded_input_count table))
 
--- the tables of parts, and the parted one
+-- the tables of parts, and the rewritten one
 pub part_within : (table : Table) (part : List (List (Option Bool))) (name : List ℕ) → HasWidth (length table.inputs) part → IsWithin (length part) (length table.inputs) (part_table table part name)
 unfolding part_table
 part_within table part name wide =
@@ -72,7 +73,7 @@ parted_within table names rows wide some =
         let zero : length (map characters_of rows) ≡ 0 = ap length none in
         omega (arith, same, zero, some)
 
--- what holds of all tables, where tables are added or one gives place to another one
+-- what holds of all tables, after tables are added or one is replaced by another one
 pub replaced_all : (P : Table → Type 0) (tables : List Table) (new : Table) → AllByRecursion P tables → P new → AllByRecursion P (replaced tables new)
 unfolding replaced
 replaced_all P [] new all this = tt
@@ -136,7 +137,7 @@ room_through first second third (inl one) (inl two) = inl (two ∙ one)
 room_through first second third (inr room) (inl two) = inr (omega (arith, room, two))
 room_through first second third one (inr room) = inr room
 
--- what is not too much where there is something
+-- what is not too much if there is something
 pub none_or_room : {X : Type 0} (list : List X) (count most : ℕ) → ((list ≢ []) × (most < count + length list) → ⊥) → (length list ≡ 0) ⊎ (count + length list ≤ most)
 none_or_room [] count most room = inl refl
 none_or_room (first ∷ list) count most room =
@@ -162,7 +163,8 @@ parts_within rows inputs table (part ∷ parts) most wide few = (
   parts_within rows inputs table parts most wide.1 few.1,
 )
 
--- a step by a rule that makes sums of a row or more: no table has more rows than there were, and at most one input more for each part
+-- a step by a rule that makes sums of a row or more: no table has more rows than there were before,
+-- and at most one input more for each node more
 pub step_within : (rule : Rule) (circuit new : Circuit) (rows inputs : ℕ) → IsSound circuit → (step : IsStep rule circuit new) → 1 ≤ sums_of rule
     → AllByRecursion (IsWithin rows inputs) circuit.tables → AllByRecursion (IsWithin rows (inputs + length step.parting.parts)) new.tables
 step_within rule circuit new rows inputs sound step one all =
@@ -195,8 +197,8 @@ step_within rule circuit new rows inputs sound step one all =
     many : length step.parted.names ≡ length step.parting.parts
     many = found_many step.parted.between.tables step.table step.parting.parts step.parted.names held.found
 
--- a sound circuit of more nodes than there were at the start, whose tables have at most so many rows, and inputs at most so many and one
--- for each node more
+-- a sound circuit of at least as many nodes as at the start, whose tables have at most so many
+-- rows, and at most one input more for each node more
 pub record IsWithinNodes (start rows inputs : ℕ) (circuit : Circuit) : Type 0 where
   pub sound : IsSound circuit
   pub added : ℕ
@@ -224,7 +226,7 @@ reached_within_nodes rule start rows inputs one circuit new within reached =
     reached_kept (IsWithinNodes start rows inputs) HadRoom (IsStep rule) (λ same good. inl refl) room_through (step_within_nodes rule start rows inputs one)
     circuit new within reached
 
--- where all but the tables stays, and there was room for each node more, the bounds stay
+-- if only tables change, and there was room for each node more, the bounds are kept
 pub room_bounds : (inputs : ℕ) (circuit new : Circuit) → inputs + MAX_NODES < 2 ^ 30 → HasBounds circuit → new ≡ with_tables circuit new.tables
     → IsWithinNodes (node_count circuit) 536870911 inputs new → HadRoom circuit new → HasBounds new
 room_bounds inputs circuit new narrow bounds rest within had = cases had
@@ -244,8 +246,8 @@ room_bounds inputs circuit new narrow bounds rest within had = cases had
     cases (inl same) = record { nodes = omega (arith, same, latches, others, bounds.nodes); tables = tables (omega (arith, same, within.nodes)) }
     cases (inr room) = record { nodes = omega (arith, room); tables = tables (omega (arith, room, within.nodes)) }
 
--- a network keeps its bounds where the inputs of each table are `MAX_NODES` below them, and the
--- rule makes sums of a row or more
+-- a network keeps its bounds if the inputs of each table are `MAX_NODES` below them, and the rule
+-- makes sums of a row or more
 pub reached_bounds : (rule : Rule) (inputs : ℕ) (circuit new : Circuit) → 1 ≤ sums_of rule → inputs + MAX_NODES < 2 ^ 30 → IsSound circuit → HasBounds circuit
     → AllByRecursion (λ (table : Table). length table.inputs ≤ inputs) circuit.tables → IsReached rule circuit new → HasBounds new
 reached_bounds rule inputs circuit new one narrow sound bounds all reached =

@@ -1,4 +1,5 @@
--- How many rows parts and what is parted have: no part has more rows than the table, and the parted table has at most one more.
+-- The numbers of rows of parts and of the rewritten table: no part has more rows than the table,
+-- and the rewritten table has at most one more for each part.
 use Rattle.std.proofs.Common.{◌≡◌, ℕ, ◌+◌, ◌≤◌, zero, suc, Bool, true, false, ◌&&◌, if◌then◌else◌, ltb, Option, Some, None, List, [], ◌∷◌, ◌++◌, map, filter, take, drop, length, replicate, get_or, set, refl, sym, ap, subst, arith}
 use Rattle.std.specs.List.{AllByRecursion, list_any}
 use Rattle.std.proofs.lemmas.Bool.{false≢true}
@@ -12,20 +13,20 @@ use Rattle.net_decomp.specs.Rules.{padded, signal_row, literal_parting, is_long,
 use Rattle.net_decomp.specs.declared.rule.Rule.{Rule}
 use Rattle.net_decomp.specs.declared.rule.Rule.TheVariants.{Shared, Gates}
 
--- for rows of a number: no part has more; what is parted has a row, and at most one more for each part; and it has no more where sums
--- of a row or more are made
+-- for a number of rows: no part has more; the rewritten table has a row, and at most one more for
+-- each part; and it has no more rows than before if sums of a row or more are made
 pub record HasCounts (sums count : ℕ) (parting : Parting) : Type 0 where
   pub parts : AllByRecursion (λ (part : List (List (Option Bool))). length part ≤ count) parting.parts
   pub some : 1 ≤ length parting.rows
   pub rows : length parting.rows ≤ count + length parting.parts
   pub fewer : 1 ≤ sums → length parting.rows ≤ count
 
--- how many rows a rule puts into a sum; one where it makes none
+-- how many rows a rule takes into a sum; 1 if it makes none
 abbrev pub sums_of : Rule → ℕ
 sums_of Shared = 1
 sums_of (Gates products sums) = sums
 
--- rows parted by a literal
+-- rows decomposed by a literal
 pub literal_rows : (place : ℕ) (bit : Bool) (rows : List (List (Option Bool))) → length (with_literal place bit rows) + length (no_literal place bit rows) ≡ length rows
 unfolding with_literal no_literal
 literal_rows place bit [] = refl
@@ -60,7 +61,7 @@ literal_counts sums width place bit rows chosen =
       fewer = λ one. omega (arith, all, others, here, chosen.two);
     }
 
--- long rows that give place to signals
+-- long rows that are replaced by signals
 pub signals_rows : (width added number : ℕ) (rows : List (List (Option Bool))) → length (with_signals width added number rows) ≡ length rows
 unfolding with_signals
 signals_rows width added number [] = refl
@@ -131,7 +132,7 @@ sum_counts width most rows some =
 pub dashes_counts : (sums width : ℕ) (rows : List (List (Option Bool))) → 1 ≤ length rows → HasCounts sums (length rows) (record { parts = []; rows = replicate width None ∷ [] })
 dashes_counts sums width rows some = record { parts = tt; some = omega arith; rows = omega (arith, some); fewer = λ one. some }
 
--- what is no gate has rows
+-- rows that are no gate are at least one
 pub gate_some : (products sums : ℕ) (rows : List (List (Option Bool))) → is_gate products sums rows ≡ false → 1 ≤ length rows
 unfolding is_gate
 gate_some products sums [] h = absurd (false≢true (sym h))
@@ -159,7 +160,7 @@ gate_counts products sums width rows no_gate = dashes (some_dashes rows)
     dashes true = dashes_counts sums width rows some
     dashes false = long (ltb 1 (length rows) && list_any is_long rows)
 
--- how a table is parted
+-- how a table is decomposed
 pub due_counts : (rule : Rule) (table : Table) (parting : Parting) → IsDecomposable rule table parting → HasCounts (sums_of rule) (length (rows_of table)) parting
 due_counts Shared table parting (place, bit, chosen, is) =
     subst (HasCounts 1 (length (rows_of table))) (sym is) (literal_counts 1 (length table.inputs) place bit (rows_of table) chosen)

@@ -1,4 +1,4 @@
--- A table that is due, what is told of it, and what it becomes.
+-- A table that is to be decomposed, its decomposition, and what it becomes.
 use Rattle.std.proofs.Common.{◌≡◌, ℕ, ◌+◌, Bool, Option, Some, None, List, ◌++◌, map, length, refl, sym, ap, ◌∙◌, subst, arith}
 use Rattle.std.specs.Prelude.{MatchOption}
 use Rattle.std.specs.List.{AllByRecursion}
@@ -51,7 +51,7 @@ module _ {R : Type 0} (f : R → List (Option Bool)) (rule : Rule) where
     wide = subst (λ (n : ℕ). HasWidth n (rows_of (named name table))) over (subst (HasWidth table.cover.width) (sym (all_places_back table.cover.rows)) wide);
   }
 
-  -- the same of the table at a place
+  -- the same for the table at an index
   pub placed_due : (slots : List (Option Table)) (place : ℕ) (entry : Entry R) (found : Option (Due R)) → Some (written_of entry) ≡ table_at slots place
       → MatchOption found (IsDone rule (named entry.output entry.table)) (IsDecomposableOf rule f (named entry.output entry.table))
       → MatchOption found ((table : Table) → table_at slots place ≡ Some table → IsDone rule table) (IsDecomposableAt rule f slots place)
@@ -83,7 +83,7 @@ module _ {R : Type 0} (f : R → List (Option Bool)) (rule : Rule) where
       ap (λ (list : List (List ℕ)). tidied (record { inputs = list; output = table.output; rows = map characters_of rows; phase = phase })) (behind ∙ ap (λ (list : List (List ℕ)). list ++ names) (sym same))
       ∙ ap (λ (bit : Bool). tidied (record { inputs = table.inputs ++ names; output = table.output; rows = map characters_of rows; phase = bit })) (sym turned)
 
-  -- the table is set at its place
+  -- the table is set at its index
   pub due_turned : (place : ℕ) (due : Due R) (made : CoverTable R) (names joined : List (List ℕ)) (before between now : Placed) → IsDecomposableAt rule f before.slots place due
       → ArePut due.inputs (map (λ part. map f part.items) due.parting.parts.items) names before between → joined ≡ due.inputs ++ names
       → ((name : List ℕ) → named name made ≡ tidied (record { inputs = joined; output = name; rows = map characters_of (map f due.parting.rows.items); phase = due.phase }))

@@ -1,4 +1,5 @@
--- Steps lead to one end: what is next is one, how it is parted is one, and where all is done, or no room is left, there is no step.
+-- Steps lead to a single end: what is next is unique, and so is its decomposition; if all tables
+-- are done, or there is no room, there is no step.
 use Rattle.std.proofs.Common.{◌≡◌, ℕ, Bool, Option, List, [], ◌∷◌, length, sym, ap₂, ◌∙◌, subst, arith}
 use Rattle.std.proofs.lemmas.Bool.{false≢true}
 use Rattle.circuit_model.specs.declared.circuit.Table.{Table}
@@ -14,7 +15,7 @@ use Rattle.net_decomp.specs.Decomposed.{IsNext, IsStep, AllDone, IsDecomposed, I
 use Rattle.net_decomp.specs.declared.rule.Rule.{Rule}
 use Rattle.net_decomp.specs.declared.rule.Rule.TheVariants.{Shared, Gates}
 
--- a table that is to be parted is not done, and is parted in one way
+-- a table that is to be decomposed is not done, and is decomposed in one way
 due_apart : (rule : Rule) (table : Table) (parting : Parting) → IsDecomposable rule table parting → IsDone rule table → ⊥
 due_apart Shared table parting (place, bit, chosen, is) done = absurd (omega (arith, chosen.two, done place bit))
 due_apart (Gates products sums) table parting (wrong, is) done = false≢true (sym wrong ∙ done)
@@ -25,7 +26,7 @@ due_one Shared table parting other (place, bit, chosen, is) (second, turned, pic
     is ∙ (ap₂ (λ (i : ℕ) (b : Bool). literal_parting (length table.inputs) i b (rows_of table)) one.0 one.1 ∙ sym same)
 due_one (Gates products sums) table parting other (wrong, is) (false_too, same) = is ∙ sym same
 
--- a table that is parted in some way
+-- a table that is to be decomposed in some way
 abbrev IsDecomposableSome : Rule → Table → Type 0
 IsDecomposableSome rule table = (parting : Parting) × IsDecomposable rule table parting
 
@@ -66,7 +67,7 @@ step_one rule circuit new other step second =
     (subst (λ (parting : Parting). IsParted circuit step.table parting other) (sym (next_parting_one rule circuit step.table second.table step.parting second.parting step.next second.next))
     (subst (λ (table : Table). IsParted circuit table second.parting other) (sym (next_table_one rule circuit step.table second.table step.parting second.parting step.next second.next)) second.parted))
 
--- where all is done nothing is next; where there is no room for what is next there is no step
+-- if all tables are done none is next; if there is no room for the next one there is no step
 done_no_next : (rule : Rule) (circuit : Circuit) → AllDone rule circuit → (table : Table) (parting : Parting) → IsNext rule circuit table parting → ⊥
 done_no_next rule circuit done table parting next = first_not_all (IsDone rule) (λ t. IsDecomposable rule t parting) (λ t. due_apart rule t parting) circuit.tables table next done
 

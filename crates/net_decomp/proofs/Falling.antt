@@ -1,4 +1,4 @@
--- A parting without parts: several rows give place to one of dashes.
+-- A decomposition without parts: several rows are replaced by one row of dashes.
 use Rattle.std.proofs.Common.{◌≡◌, ℕ, ◌<◌, suc, Bool, true, false, ◌&&◌, ◌||◌, if◌then◌else◌, ltb, leb, Option, None, List, [], ◌∷◌, map, filter, replicate, length, refl, sym, ap, ◌∙◌, subst, arith}
 use Rattle.std.specs.List.{list_any}
 use Rattle.std.proofs.lemmas.Bool.{false≢true, eqb-true, le-leb}
@@ -10,7 +10,7 @@ use Rattle.net_decomp.specs.declared.rule.Rule.{Rule}
 use Rattle.net_decomp.specs.declared.rule.Rule.TheVariants.{Shared, Gates}
 use Rattle.net_decomp.proofs.Counted.{none_dashes}
 
--- several rows give place to one
+-- several rows are replaced by one
 pub record IsFalling (rows : List (List (Option Bool))) (parting : Parting) : Type 0 where
   pub several : 1 < length rows
   pub one : length parting.rows ≡ 1

@@ -1,4 +1,5 @@
--- A table is parted: the circuit stays sound, no signal goes, and each keeps its value; so it is from step to step.
+-- A table is decomposed: the circuit stays sound, no signal is removed, and each keeps its value;
+-- so does each sequence of steps.
 use Rattle.std.proofs.Common.{◌≡◌, ℕ, ◌+◌, Bool, true, false, Option, Some, List, ◌++◌, map, length, bytes_eq, refl, sym, ap, ap₂, ◌∙◌, subst, inl, inr, ◌⊎◌}
 use Rattle.std.specs.List.{AllByRecursion}
 use Rattle.std.proofs.lemmas.List.{length-append, length-map, map-append}
@@ -30,7 +31,7 @@ use Rattle.net_decomp.specs.declared.rule.Rule.{Rule}
 use Rattle.net_decomp.proofs.Values.{KeepsRows, due_keeps}
 use Rattle.net_decomp.proofs.Adding.{driver_among, characters_wide, part_reads, AreFound, HoldsParts, parts_hold, found_many, found_at, found_bits}
 
--- a table over more inputs, not yet tidy
+-- a table over more inputs, not yet in normal form
 abbrev pub over_names : Table → List (List ℕ) → List (List (Option Bool)) → Table
 over_names table names rows = record table { inputs = table.inputs ++ names; rows = map characters_of rows }
 
@@ -67,7 +68,7 @@ pub own_value : (table : Table) (value : List ℕ → Bool) → driven_value (So
 unfolding table_value value_by_phase
 own_value table value = refl
 
--- a table of a sound circuit that is parted over the tables of its parts
+-- a table of a sound circuit that is rewritten over the tables of its parts
 pub record IsOverParts (circuit : Circuit) (table : Table) (parting : Parting) (names : List (List ℕ)) : Type 0 where
   pub sound : IsSound circuit
   pub at : driver circuit.tables table.output ≡ Some table

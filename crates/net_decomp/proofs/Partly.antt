@@ -1,4 +1,4 @@
--- Rows and literals that a loop goes over: what is made, and what is still to be made of the rest.
+-- Rows and literals in a loop: those that are made, and those still to be made of the rest.
 use Rattle.std.proofs.Common.{◌≡◌, ℕ, ◌+◌, ◌-◌, ◌<◌, ◌≤◌, zero, suc, Bool, true, false, if◌then◌else◌, eqb, Option, Some, None, List, [], ◌∷◌, ◌++◌, map, filter, drop, length, get_or, refl, sym, ap, ◌∙◌, arith}
 use Rattle.std.proofs.lemmas.Bool.{eqb-true}
 use Rattle.std.proofs.Math.Seq.{drop-cons}
@@ -6,7 +6,7 @@ use Rattle.std.proofs.lemmas.List.{map_push, append_assoc, append-nil, drop_all}
 use Rattle.cube_cover.specs.Literals.{literal_number}
 use Rattle.net_decomp.specs.Rules.{padded, signal_row, is_long, with_signals, first_literals, later_literals}
 
--- one more is made of the front of what is left
+-- one more is made of the first of what is left
 pub moved : {A : Type 0} (made new rest : List A) (x : A) → new ≡ made ++ x ∷ [] → new ++ rest ≡ made ++ x ∷ rest
 moved {A = A} made new rest x h = ap (λ (l : List A). l ++ rest) h ∙ append_assoc made (x ∷ []) rest
 
@@ -17,7 +17,7 @@ not_zero n = cases (eqb (suc n) 0) refl
     cases true e = absurd (let z : suc n ≡ 0 = eqb-true (suc n) 0 e in omega (arith, z))
     cases false e = e
 
--- the first literals, one place on
+-- the first literals, one column further
 first_cons : (left : ℕ) (literal : Option Bool) (row : List (Option Bool)) → first_literals left (literal ∷ row) ≡ (if eqb left 0 then None else literal) ∷ first_literals (left - literal_number literal) row
 unfolding first_literals
 first_cons zero None row = refl
@@ -40,7 +40,7 @@ later_cons (suc left) (Some bit) row =
     let less : left ≡ suc left - 1 = omega arith in
     rw (not_zero left) (ap (λ (n : ℕ). None ∷ later_literals n row) less)
 
--- what is left from a place on
+-- what is left from an index on
 rest_cons : {A : Type 0} (all : List A) (i : ℕ) (x other : A) → i < length all → x ≡ get_or all i other → drop i all ≡ x ∷ drop (i + 1) all
 rest_cons {A = A} all i x other in_range is =
     let one : suc i ≡ i + 1 = omega arith in
@@ -77,7 +77,7 @@ unfolding later_literals
 later_ended all made total i left past so_far =
     sym (append-nil made) ∙ ap (λ (l : List (Option Bool)). made ++ later_literals left l) (sym (drop_all i all past)) ∙ so_far
 
--- rows of which the long ones give place to signals, one row on
+-- rows of which the long ones are replaced by signals, one row further
 signals_long : (width added number : ℕ) (row : List (Option Bool)) (rows : List (List (Option Bool))) → is_long row ≡ true
     → with_signals width added number (row ∷ rows) ≡ signal_row width added number ∷ with_signals width added (number + 1) rows
 unfolding with_signals
@@ -92,7 +92,8 @@ unfolding with_signals
 signals_short width added number row rows short =
     ap (λ (b : Bool). if b then signal_row width added number ∷ with_signals width added (suc number) rows else padded added row ∷ with_signals width added number rows) short
 
--- a loop over rows that are to get signals: what is made with what is still to be made, and how many signals there are
+-- a loop over rows that are to get signals: those made with those still to be made, and how many
+-- signals there are
 pub record AreSignalled {R : Type 0} (f : R → List (Option Bool)) (width added number index : ℕ) (rows made : List R) : Type 0 where
   pub made_so_far : map f made ++ with_signals width added number (map f (drop index rows)) ≡ with_signals width added 0 (map f rows)
   pub count : number + length (filter is_long (map f (drop index rows))) ≡ added

@@ -1,4 +1,4 @@
--- Tables of parts behind the last place, one after the other.
+-- Tables of parts are added after the last index, one after the other.
 use Rattle.std.proofs.Common.{◌≡◌, ℕ, ◌+◌, ◌≤◌, suc, Bool, true, Option, Some, List, [], ◌∷◌, ◌++◌, map, length, refl, sym, ap, ◌∙◌, subst, arith}
 use Rattle.std.specs.List.{AllByRecursion}
 use Rattle.std.proofs.lemmas.List.{append-nil, append_assoc, map_push, length-map, length-append}
@@ -20,7 +20,7 @@ use Rattle.net_work.proofs.Standing.{standing_push}
 use Rattle.net_decomp.specs.Cursor.{ArePut, HasRoomFor}
 use Rattle.sis_base.specs.declared.limits.TheConstants.{MAX_NODES}
 
--- one part more
+-- one more part
 parts_more : (table : Table) (parts : List (List (List (Option Bool)))) (part : List (List (Option Bool))) (circuit : Circuit) (names : List (List ℕ)) (name : List ℕ) (between : Circuit)
     → ArePartsAdded table parts circuit names between → IsNewName between name
     → ArePartsAdded table (parts ++ part ∷ []) circuit (names ++ name ∷ []) (with_added between (part_table table part name))
@@ -40,7 +40,7 @@ put_begin inputs now = record {
   bounded = tt;
 }
 
--- the tidy table of a part over inputs
+-- the table of a part over inputs, in normal form
 abbrev pub tidy_part : List (List ℕ) → List (List (Option Bool)) → List ℕ → Table
 tidy_part inputs part name = tidied (record { inputs = inputs; output = name; rows = map characters_of part; phase = true })
 

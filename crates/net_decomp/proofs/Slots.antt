@@ -1,4 +1,5 @@
--- Tables at places: a list of them behind the last place, that of a place among all, and one written over that of its signal.
+-- Tables by index: a list of them after the last index, that of an index among all, and one written
+-- over that of its signal.
 use Rattle.std.proofs.Common.{◌≡◌, ℕ, ◌<◌, zero, suc, Bool, true, cond, Option, Some, None, List, [], ◌∷◌, ◌++◌, map, length, set, refl, sym, ap, ◌∙◌, subst, arith}
 use Rattle.std.specs.List.{AllByRecursion}
 use Rattle.std.proofs.lemmas.Bool.{false≢true}
@@ -12,7 +13,7 @@ use Rattle.net_core.proofs.Lookups.{get_set_same, get_set_other}
 use Rattle.net_work.specs.Placed.{standing, joined, table_at}
 use Rattle.net_work.proofs.Standing.{place_there}
 
--- tables that all stand
+-- the tables of slots that all have one
 standing_all : (more : List Table) → standing (map Some more) ≡ more
 unfolding standing
 standing_all [] = refl
@@ -24,7 +25,7 @@ standing_behind [] more = standing_all more
 standing_behind (None ∷ slots) more = standing_behind slots more
 standing_behind (Some table ∷ slots) more = ap (λ (tables : List Table). table ∷ tables) (standing_behind slots more)
 
--- what stands at a place stays where others come behind the last
+-- the table at an index stays if others are added after the last
 pub table_before : (slots others : List (Option Table)) (at : ℕ) → at < length slots → table_at (slots ++ others) at ≡ table_at slots at
 table_before [] others at below = absurd (omega (arith, below))
 table_before (slot ∷ slots) others zero below = refl
@@ -35,14 +36,15 @@ table_within [] at table there = absurd (none-some table there)
 table_within (slot ∷ slots) zero table there = omega arith
 table_within (slot ∷ slots) (suc at) table there = let below : at < length slots = table_within slots at table there in omega (arith, below)
 
--- what stands at a place that is written, and at others
+-- the table at an index that is written, and those at others
 pub table_set : (slots : List (Option Table)) (place : ℕ) (old new : Table) → table_at slots place ≡ Some old → table_at (set slots place (Some new)) place ≡ Some new
 table_set slots place old new there = ap joined (get_set_same slots place (Some old) (Some new) (place_there slots place old there))
 
 pub table_other : (slots : List (Option Table)) (place at : ℕ) (new : Table) → at < place → table_at (set slots place (Some new)) at ≡ table_at slots at
 table_other slots place at new below = ap joined (get_set_other slots place at (Some new) (λ same. omega (arith, same, below)))
 
--- the table at a place among all; what holds of the tables below the place holds of those before it
+-- the table at an index among all; what holds of the tables at lower indices holds of those before
+-- it
 pub record IsAmong (P : Table → Type 0) (tables : List Table) (table : Table) : Type 0 where
   pub before : List Table
   pub after : List Table
@@ -70,7 +72,7 @@ among P (Some first ∷ slots) (suc place) table there each =
       all = (each 0 first (omega arith) refl, rest.all);
     }
 
--- what holds at each place holds of all tables
+-- what holds at each index holds of all tables
 pub all_standing : (P : Table → Type 0) (slots : List (Option Table)) → ((at : ℕ) (table : Table) → at < length slots → table_at slots at ≡ Some table → P table) → AllByRecursion P (standing slots)
 unfolding standing
 all_standing P [] each = tt

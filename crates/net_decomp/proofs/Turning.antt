@@ -1,4 +1,4 @@
--- A table parted at its place: what becomes of the circuit, and that steps at one place end.
+-- A table is decomposed at its index: the circuit after that, and that the steps at one index end.
 use Rattle.std.proofs.Common.{◌≡◌, ℕ, ◌+◌, ◌-◌, ◌*◌, ◌<◌, ◌≤◌, suc, ltb, cond, Bool, true, false, Option, Some, List, [], ◌∷◌, map, length, refl, sym, ap, ◌∙◌, subst, inl, inr, arith}
 use Rattle.std.specs.List.{AllByRecursion}
 use Rattle.std.proofs.lemmas.Bool.{lt-ltb, le-ltb, cases_lt}
@@ -29,14 +29,14 @@ use Rattle.net_decomp.proofs.Putting.{put_nodes}
 use Rattle.net_decomp.proofs.Falling.{due_falls}
 use Rattle.sis_base.specs.declared.limits.TheConstants.{MAX_NODES}
 
--- the table at a place drives its signal
+-- the table at an index drives its signal
 pub placed_drives : (now : Placed) (place : ℕ) (table : Table) → IsSound (circuit_of now) → table_at now.slots place ≡ Some table → driver (standing now.slots) table.output ≡ Some table
 placed_drives now place table sound there =
     let at = among (λ (other : Table). Unit {0}) now.slots place table there (λ at other below here. tt) in
     subst (λ (tables : List Table). driver tables table.output ≡ Some table) (sym at.is)
     (driver_among at.before at.after table (subst (λ (tables : List Table). all_different (outputs_of tables) ≡ true) at.is (outputs_different (circuit_of now) sound)))
 
--- the table stays at its place where parts are put behind the last one
+-- the table at an index stays if parts are added after the last one
 pub put_at : (inputs : List (List ℕ)) (parts : List (List (List (Option Bool)))) (names : List (List ℕ)) (place : ℕ) (table : Table) (before now : Placed) → ArePut inputs parts names before now
     → table_at before.slots place ≡ Some table → table_at now.slots place ≡ Some table
 put_at inputs parts names place table before now put there =
@@ -74,7 +74,7 @@ turned_at table parting place before now turned there =
     ap (λ (p : Placed). table_at p.slots place) turned.set
     ∙ table_set turned.between.slots place table (parted_table table turned.names parting.rows) (put_at table.inputs parting.parts turned.names place table before turned.between turned.put there)
 
--- without parts the table has one row then
+-- without parts the table has one row afterwards
 one_row : (rule : Rule) (table : Table) (parting : Parting) (names : List (List ℕ)) → IsDecomposable rule table parting → HasWidth (length table.inputs) (rows_of table) → parting.parts ≡ [] → names ≡ []
     → length (parted_table table names parting.rows).rows ≤ 1
 one_row rule table parting names due wide none no_names =
@@ -126,7 +126,7 @@ turned_falls rule table parting place before now turned sound there wide due roo
         subst (λ (n : ℕ). 2 * ((MAX_NODES + 1) - n) + cond {A = ℕ} left 1 0 < 2 * ((MAX_NODES + 1) - node_count (circuit_of before)) + cond {A = ℕ} several 1 0) (sym nodes)
         (falls_by_room (node_count (circuit_of before)) (length parting.parts) several left (omega (arith, many)) (room (omega (arith, many))))
 
--- where there is room for the parts, they are not too many; where there is none, they are
+-- if there is room for the parts, there are not too many nodes; if there is none, there are
 room_not_full : (circuit : Circuit) (parting : Parting) → HasRoomFor (node_count circuit) (length parting.parts) → IsOverfull circuit parting → ⊥
 room_not_full circuit parting room (some, over) = some (nil_from_length parting.parts (grind (arith, room, over)))
 

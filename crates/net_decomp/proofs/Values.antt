@@ -1,4 +1,5 @@
--- A parting keeps what rows say: at each point, its rows at the point and at the values of its parts there.
+-- A decomposition keeps the function of the rows: at each point it is that of the new rows at the
+-- point and at the values of the parts there.
 use Rattle.std.proofs.Common.{◌≡◌, ℕ, ◌+◌, ◌<◌, ◌≤◌, zero, suc, Bool, true, false, ◌&&◌, ◌||◌, if◌then◌else◌, ltb, Option, Some, None, List, [], ◌∷◌, ◌++◌, map, filter, take, drop, length, replicate, get_or, set, refl, sym, ap, ap₂, ◌∙◌, subst, arith}
 use Rattle.std.specs.List.{AllByRecursion, list_any}
 use Rattle.std.proofs.lemmas.Bool.{ltb-false}
@@ -21,7 +22,7 @@ use Rattle.net_decomp.specs.declared.rule.Rule.TheVariants.{Shared, Gates}
 abbrev pub part_bits : List (List (List (Option Bool))) → List Bool → List Bool
 part_bits parts point = map (λ part. some_matches part point) parts
 
--- a parting is of the widths that are due, and keeps what rows say
+-- a decomposition has the expected widths, and keeps the function of rows
 pub record KeepsRows (width : ℕ) (rows : List (List (Option Bool))) (parting : Parting) : Type 0 where
   pub parts : AllByRecursion (HasWidth width) parting.parts
   pub wide : HasWidth (width + length parting.parts) parting.rows
@@ -167,7 +168,7 @@ literal_keeps width place bit rows below wide = record {
       ∙ sym (parted_value place bit rows point (subst (λ (n : ℕ). place < n) (sym e) below) (subst (λ (n : ℕ). HasWidth n rows) (sym e) wide));
 }
 
--- long rows that give place to signals
+-- long rows that are replaced by signals
 pub HasWidth-signals : (width added number : ℕ) (rows : List (List (Option Bool))) → HasWidth width rows → HasWidth (width + added) (with_signals width added number rows)
 unfolding HasWidth with_signals
 HasWidth-signals width added number [] wide = tt
@@ -179,7 +180,7 @@ HasWidth-signals width added number (row ∷ rows) wide =
     cases true next same = (signal_long width added number, next)
     cases false next same = (padded_long added row ∙ ap (λ (n : ℕ). n + added) wide.0, same)
 
--- the bit behind some bits
+-- the bit after some bits
 pub get_behind : (front back : List Bool) (bit : Bool) → get_or (front ++ bit ∷ back) (length front) false ≡ bit
 get_behind [] back bit = refl
 get_behind (first ∷ front) back bit = get_behind front back bit
@@ -373,7 +374,7 @@ gate_keeps products sums width rows wide = dashes (some_dashes rows) refl
     dashes true h = dashes_keep width rows h
     dashes false h = long (ltb 1 (length rows) && list_any is_long rows)
 
--- how a table is parted keeps what its rows say
+-- the decomposition of a table keeps the function of its rows
 pub due_keeps : (rule : Rule) (table : Table) (parting : Parting) → HasWidth (length table.inputs) (rows_of table) → IsDecomposable rule table parting → KeepsRows (length table.inputs) (rows_of table) parting
 due_keeps Shared table parting wide (place, bit, chosen, is) =
     subst (KeepsRows (length table.inputs) (rows_of table)) (sym is) (literal_keeps (length table.inputs) place bit (rows_of table) (chosen-below (length table.inputs) place bit (rows_of table) wide chosen) wide)

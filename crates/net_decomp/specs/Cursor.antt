@@ -31,7 +31,7 @@ pub record IsDecomposableAt {R : Type 0} (rule : Rule) (f : R → List (Option B
   pub there : table_at slots place ≡ Some table
   pub told_of : IsDecomposableOf rule f table due
 
--- tables of parts over some inputs are added as the last, and keep within their bounds
+-- tables of parts over some inputs are added as the last, and are within their bounds
 pub record ArePut (inputs : List (List ℕ)) (parts : List (List (List (Option Bool)))) (names : List (List ℕ)) (before now : Placed) : Type 0 where
   pub more : List Table
   pub frame : now.frame ≡ before.frame
@@ -53,8 +53,8 @@ abbrev pub row_count : Option Table → ℕ
 row_count None = 0
 row_count (Some table) = length table.rows
 
--- a number that falls with each step at an index: parts take room; and if there are none, one row
--- is left of several
+-- a number that falls with each step at an index: each part takes room; and without parts a single
+-- row replaces several
 unfoldable pub weight : ℕ → Placed → ℕ
 weight place now = 2 * ((MAX_NODES + 1) - node_count (circuit_of now)) + cond {A = ℕ} (ltb 1 (row_count (table_at now.slots place))) 1 0
 
@@ -69,7 +69,7 @@ pub record IsPartedAt (rule : Rule) (place : ℕ) (before now : Placed) : Type 0
   pub bounded : AllByRecursion IsBounded (standing before.slots) → AllByRecursion IsBounded (standing now.slots)
   pub fewer : weight place now < weight place before
 
--- among so many nodes there is room for so many more; for none there always is
+-- to so many nodes so many more may be added; none always may
 abbrev pub HasRoomFor : ℕ → ℕ → Type 0
 HasRoomFor nodes more = 1 ≤ more → nodes + more ≤ MAX_NODES
 

@@ -1,5 +1,5 @@
--- Decomposition: tables are parted one step after the other, always the earliest that is not done,
--- until all are done. Source: the SIS report (UCB/ERL M92/41), `decomp` and `tech_decomp`; De
+-- Decomposition: tables are decomposed one step after the other, always the earliest that is not
+-- done, until all are done. Source: the SIS report (UCB/ERL M92/41), `decomp` and `tech_decomp`; De
 -- Micheli, "Synthesis and Optimization of Digital Circuits", chapter 8 (decomposition).
 use Rattle.std.specs.List.{AllByRecursion}
 use Rattle.circuit_model.specs.declared.circuit.Table.{Table}
@@ -9,7 +9,7 @@ use Rattle.net_decomp.specs.Partings.{Parting, IsParted, IsOverfull}
 use Rattle.net_decomp.specs.Rules.{IsDone, IsDecomposable}
 use Rattle.net_decomp.specs.declared.rule.Rule.{Rule}
 
--- the earliest table of a circuit that is not done, and how it is parted
+-- the earliest table of a circuit that is not done, and how it is decomposed
 abbrev pub IsNext : Rule → Circuit → Table → Parting → Type 0
 IsNext rule circuit table parting =
     IsFirstFailing (IsDone rule) (λ t. IsDecomposable rule t parting) circuit.tables table
@@ -33,13 +33,13 @@ AllDone rule circuit = AllByRecursion (IsDone rule) circuit.tables
 abbrev pub IsDecomposed : Rule → Circuit → Circuit → Type 0
 IsDecomposed rule circuit new = HasEnd (IsStep rule) (AllDone rule) circuit new
 
--- there is no room for the parts that are next
+-- there is no room for the next parts
 pub record IsOver (rule : Rule) (circuit : Circuit) : Type 0 where
   pub table : Table
   pub parting : Parting
   pub next : IsNext rule circuit table parting
   pub over : IsOverfull circuit parting
 
--- steps lead to a circuit that has no room for the parts that are next
+-- steps lead to a circuit that has no room for the next parts
 abbrev pub IsFull : Rule → Circuit → Type 0
 IsFull rule circuit = HasStop (IsStep rule) (IsOver rule) circuit

@@ -2,7 +2,7 @@
 -- each table is one product or one sum within given bounds.
 -- Source: the SIS report (UCB/ERL M92/41), `decomp` and `tech_decomp`; Brayton, Rudell,
 -- Sangiovanni-Vincentelli and Wang, "MIS: A Multiple-Level Logic Optimization System" (1987), for
--- the literal that is taken out (as in alg_factor).
+-- the literal that is factored out (as in alg_factor).
 use Rattle.std.specs.Prelude.{◌≡◌, ℕ, zero, suc, ltb, leb, Bool, true, false, ◌&&◌, ◌||◌, if◌then◌else◌, eqb, Option, Some, None, List, [], ◌∷◌, ◌++◌, map, filter, take, drop, length, replicate, slice_set}
 use Rattle.std.specs.List.{list_all, list_any}
 use Rattle.circuit_model.specs.declared.circuit.Table.{Table}
@@ -60,8 +60,8 @@ later_literals count (None ∷ row) = None ∷ later_literals count row
 later_literals zero (Some bit ∷ row) = Some bit ∷ later_literals zero row
 later_literals (suc count) (Some bit ∷ row) = None ∷ later_literals count row
 
--- the first literals of each row, so many, become a table, whose signal is the last input beside
--- the literals left; this is for a single row
+-- the first literals of each row, so many, become a table, whose signal is the last input, after
+-- the literals that are left; this is for a single row
 unfoldable pub product_parting : ℕ → List (List (Option Bool)) → Parting
 product_parting most rows = record {
   parts = map (first_literals most) rows ∷ [];
@@ -82,9 +82,9 @@ is_gate products sums rows =
     (leb (length rows) 1 && list_all (λ row. leb (row_literals row) products) rows)
     || (leb (length rows) sums && list_all (λ row. eqb (row_literals row) 1) rows)
 
--- how rows that are no gate are decomposed: if a row has no literal, only such a row stays; else,
--- if there are two rows or more and some are long, the long ones become tables; else a single row
--- gives up its first literals, and several rows give up the first of them
+-- how rows that are no gate are decomposed: if a row has no literal, a single such row is left;
+-- else, if there are two rows or more and some are long, the long ones become tables; else the
+-- first literals of a single row, or the first of several rows, become a table
 unfoldable pub gate_parting : ℕ → ℕ → ℕ → List (List (Option Bool)) → Parting
 gate_parting products sums width rows =
     if some_dashes rows then record { parts = []; rows = replicate width None ∷ [] }

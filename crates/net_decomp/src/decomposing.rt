@@ -1,10 +1,10 @@
 //! Decomposition: each table in the order of indices is decomposed until it is done.
 //!
 //! Source: the SIS report (UCB/ERL M92/41), `decomp` and `tech_decomp`; De Micheli, "Synthesis and
-//! Optimization of Digital Circuits", chapter 8. Tables added meanwhile come last and have their
-//! turn, too. Invariant (`IsAlong`): steps lead to the current network, and the tables below the
-//! index are done. Callers rely on the end of the chain of steps, or on `NodeLimit` only where a
-//! step has no room.
+//! Optimization of Digital Circuits", chapter 8. Tables added meanwhile come last and are
+//! decomposed in turn. Invariant (`IsAlong`): steps lead to the current network, and the tables at
+//! lower indices are done. Callers rely on the end of the chain of steps, or on `NodeLimit` only if
+//! a step has no room.
 
 ghost use Rattle.std.specs.Prelude.{◌≡◌, ◌+◌, IfOk, IfErr, OnOk};
 ghost use Rattle.circuit_model.specs.Soundness.{IsSound};
@@ -81,9 +81,9 @@ fn nodes_of<R: Row>(network: &Network<R>) -> u128
 
 /// A new network, decomposed; the given one stays. Tables are decomposed by a rule until all are
 /// done, always the earliest one that is not; parts become tables, which are last, under the least
-/// free names. `NodeLimit` exactly if a step has parts and with them there would be more than
+/// free names. `NodeLimit` only if a step has parts and with them there would be more than
 /// `MAX_NODES` tables and latches, those of the don't-care part included. `Memory` also if a table
-/// in its normal form would have 2^30 inputs or 2^29 rows.
+/// in its normal form would have 2^30 inputs or 2^29 rows; no clause says so.
 pub fn decompose<R: Row>(
     alloc: Global,
     network: &Network<R>,

@@ -15,7 +15,7 @@ ghost use Rattle.net_decomp.specs.Rules.{IsDone, IsDecomposable};
 ghost use Rattle.net_decomp.specs.Decomposed.{IsStep, IsReached, IsDecomposed, IsFull};
 ghost use Rattle.net_decomp.specs.declared.rule.Rule.{Rule};
 
-/// A table that is to be decomposed is not done, and is decomposed in one way.
+/// A table that is to be decomposed is not done, and its decomposition is unique.
 pub fn parting_is_one()
     ensures apart { (rule : Rule) (table : Table) (parting : Parting)
         → IsDecomposable rule table parting → IsDone rule table → ⊥ }

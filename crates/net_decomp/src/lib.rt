@@ -5,8 +5,8 @@
 //! Optimization of Digital Circuits", chapter 8. `specs/Partings.antt` has what becomes of a
 //! circuit when a table is decomposed, `specs/Rules.antt` the two rules, `specs/Decomposed.antt`
 //! the steps and the end; `laws` says what both rules keep. Promised (`specs/Decompose.antt`): the
-//! end of the chain of steps, or `NodeLimit` exactly if a step of it has no room. Each table is
-//! decomposed at its index until it is done, and no table is looked at again; no clause says so.
+//! end of the chain of steps, or `NodeLimit` only if a step of it has no room. Each table is
+//! decomposed at its index until it is done, and no table is visited again; no clause says so.
 #![tactic(auto)]
 
 mod decomposing;

@@ -3,8 +3,8 @@
 //! Source: the SIS report (UCB/ERL M92/41), `decomp` and `tech_decomp`. By the rule `Shared` the
 //! rows with that literal become one part, without it. By the rule `Gates` a row without literals
 //! makes the table constant; of several rows each long one becomes a part; else the first literals
-//! of a single row, or the first rows of a sum, are the part. Callers rely on `IsDecomposable`: exactly this
-//! decomposition, and none exactly if the table is done.
+//! of a single row, or the first rows of a sum, are the part. Callers rely on `IsDecomposable`:
+//! exactly this decomposition, and none exactly if the table is done.
 
 ghost use Rattle.std.specs.Prelude.{◌≡◌, ℕ, ◌<◌, Bool, true, false, Some, Option, None, List, [], ◌∷◌, length, map, filter, slice_set, replicate, IfOk, MatchOption};
 ghost use Rattle.circuit_model.specs.declared.circuit.Table.{Table};

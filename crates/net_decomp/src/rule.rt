@@ -3,8 +3,8 @@
 /// The rule by which tables are decomposed.
 #[derive(Clone, Copy, Debug, PartialEq, Eq)]
 pub enum Rule {
-    /// The literal that occurs in most rows is taken out of them, while some literal occurs in two
-    /// rows.
+    /// The literal that occurs in most rows is factored out of them, while some literal occurs in
+    /// two rows.
     Shared,
     /// Each table becomes a product of at most so many literals, or a sum of at most so many rows
     /// of one literal each. With a number below 2 a table may be decomposed without end, until

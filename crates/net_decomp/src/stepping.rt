@@ -33,10 +33,10 @@ use sis_base::Copied;
 use sis_base::limits::MAX_NODES;
 use std::alloc::{AllocError, Global};
 
-/// How many tables and latches may stand, the tables of the don't-care part with them.
+/// The limit on tables and latches, the tables of the don't-care part included.
 const NODE_LIMIT: u128 = MAX_NODES as u128;
 
-/// What stays of a table that is to be parted, and how it is parted.
+/// What stays of a table that is to be decomposed, and its decomposition.
 #[derive(Drop)]
 pub(crate) struct Due<R: Row> {
     pub(crate) inputs: Names,
@@ -83,7 +83,7 @@ fn due_at<R: Row>(
     }
 }
 
-// The tidy table of some rows.
+// The table of some rows, in normal form.
 fn tidy_table<R: Row>(
     alloc: Global,
     inputs: Names,

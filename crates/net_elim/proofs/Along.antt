@@ -1,4 +1,4 @@
--- One table of the order after the other is taken into its readers.
+-- The tables of the order are composed into their fanouts one after the other.
 use Rattle.std.proofs.Common.{◌≡◌, ℕ, ◌<◌, ◌+◌, zero, suc, true, Option, Some, None, List, [], ◌∷◌, map, fold, drop, length, get_or, is_some, refl, sym, ap, ◌∙◌, subst, arith}
 use Rattle.std.specs.Option.{option_map, option_map_or, option_or}
 use Rattle.std.proofs.lemmas.Option.{none-some, same_Some}
@@ -23,7 +23,7 @@ use Rattle.net_elim.proofs.Turns.{drives, cause_or}
 pub along_begun : (names : List (List ℕ)) (placed : Placed) → IsSound (circuit_of placed) → IsAlong names names placed placed
 along_begun names placed sound = record { frame = refl; names_stay = λ at. refl; end_same = refl; refusal_same = refl; sound = sound }
 
--- a place of the order has a table of its name
+-- an index of the order has a table of its name
 pub named_at : (f : ℕ → Option (List ℕ)) (places : List ℕ) (names : List (List ℕ)) → map f places ≡ map Some names → (i place : ℕ) → i < length places → place ≡ get_or places i 0
     → (name : List ℕ) × (f place ≡ Some name) × (drop i names ≡ name ∷ drop (suc i) names)
 named_at f [] names e i place lt is = absurd (omega (arith, lt))
@@ -78,7 +78,7 @@ along_more names left rest before now new place name inner along next at is put 
     step : with_put (circuit_of now) name ≡ circuit_of new
     step = put_circuit now new place inner name along.sound at is put
 
--- a refusal of a step is that of the whole
+-- a refusal of a step is a refusal of the whole order
 pub along_refused : (names left rest : List (List ℕ)) (before now : Placed) (place : ℕ) (name : List ℕ) (inner : Table) → IsAlong names left before now → left ≡ name ∷ rest
     → table_at now.slots place ≡ Some inner → inner.output ≡ name → (fault : CollapseFault) → IsCause (refusal_among inner (standing now.slots)) fault → IsCause (refusal_along (circuit_of before) names) fault
 unfolding refusal_along
@@ -88,7 +88,7 @@ along_refused names left rest before now place name inner along next at is fault
     (cause_or (put_refusal (circuit_of now) name) (refusal_along (with_put (circuit_of now) name) rest) fault
     (subst (λ (o : Option (List ℕ × ComposeFault)). IsCause o fault) (sym (refusal_there now place inner name along.sound at is)) cause))
 
--- the turn of a place
+-- the step for the next index
 next_place : (names : List (List ℕ)) (places : List ℕ) (i : ℕ) (before now : Placed) → map (name_at before.slots) places ≡ map Some names → i < length places → IsAlong names (drop i names) before now
     → (name : List ℕ) × (inner : Table) × (drop i names ≡ name ∷ drop (i + 1) names) × (table_at now.slots (get_or places i 0) ≡ Some inner) × (inner.output ≡ name)
 next_place names places i before now order long along =
@@ -114,7 +114,7 @@ turn_refused names places i before now order long along fault cause =
     let (name, inner, next, there, is) = next_place names places i before now order long along in
     along_refused names (drop i names) (drop (i + 1) names) before now (get_or places i 0) name inner along next there is fault (cause inner there)
 
--- at the end nothing refused
+-- at the end there was no refusal
 pub along_none : (names : List (List ℕ)) (before now : Placed) → IsAlong names [] before now → refusal_along (circuit_of before) names ≡ None
 unfolding refusal_along
 along_none names before now along = along.refusal_same

@@ -1,4 +1,4 @@
--- What is collapsed keeps within the bounds of a network.
+-- Collapse keeps a network within its bounds.
 use Rattle.std.proofs.Common.{◌≡◌, ℕ, Option, Some, None, List, [], ◌∷◌, map, filter, fold, length, refl, sym, ap, ◌∙◌, subst, arith}
 use Rattle.std.specs.List.{AllByRecursion}
 use Rattle.std.specs.Option.{option_map, option_map_or, option_or}
@@ -22,7 +22,7 @@ use Rattle.sis_base.specs.declared.limits.TheConstants.{MAX_ROWS}
 abbrev named_fault : List ℕ → ComposeFault → List ℕ × ComposeFault
 named_fault name fault = (name, fault)
 
--- nothing was refused, so neither this nor the rest
+-- if there is no refusal, neither the first nor the rest refuses
 or_none : {A : Type 0} (first rest : Option A) → option_or first rest ≡ None → (first ≡ None) × (rest ≡ None)
 or_none None rest h = (refl, h)
 or_none (Some x) rest h = absurd (none-some x (sym h))

@@ -1,4 +1,4 @@
--- What entries at places tell of the tables there.
+-- The tables of the entries at indices.
 use Rattle.std.proofs.Common.{◌≡◌, ℕ, true, Option, Some, List, refl, sym, ap, ◌∙◌, subst}
 use Rattle.std.proofs.lemmas.Option.{same_Some}
 use Rattle.circuit_model.specs.Names.{all_different}

@@ -1,4 +1,5 @@
--- A table is taken into all that read it: what is made for each reader, what comes when it is set, and when a reader refuses.
+-- A table is composed into all its fanouts: what is made for each fanout, the network after it is
+-- set, and when a fanout refuses.
 use Rattle.std.proofs.Common.{◌≡◌, ℕ, ◌<◌, ◌==◌, arith, length, get_or, zero, suc, Bool, true, false, ◌||◌, Option, Some, None, is_some, is_none, List, [], ◌∷◌, ◌++◌, bytes_eq, position, slice_get, set, refl, sym, ap, ◌∙◌, subst, inl, inr, ◌⊎◌}
 use Rattle.std.specs.List.{AllByRecursion}
 use Rattle.std.specs.Option.{option_map, option_map_or}
@@ -31,7 +32,7 @@ use Rattle.net_elim.specs.declared.putting.PutFault.TheVariants.{Refused, Memory
 use Rattle.net_elim.proofs.Places.{same_lists, drives_at, tests_all, tests_none}
 use Rattle.sis_base.specs.declared.limits.TheConstants.{MAX_ROWS}
 
--- one reader
+-- one fanout
 module _ {R : Type 0} where
   pub made_is : (slots : List (Option Table)) (at : ℕ) (inner : Table) (entry : Entry R) (made : CoverTable R) → Some (written_of entry) ≡ table_at slots at
       → ((output : List ℕ) → named output made ≡ composed_into inner (named output entry.table)) → (outer : Table) → table_at slots at ≡ Some outer → named outer.output made ≡ composed_into inner outer
@@ -44,7 +45,7 @@ module _ {R : Type 0} where
   unfolding named
   made_once inner entry made once ok = ap (λ (t : Table). all_different t.inputs) (ok []) ∙ taken_once inner (named [] entry.table) once
 
--- what does not read a table refuses nothing
+-- a table that does not read the composed one refuses nothing
 pub unread_takes : (lists rows : ℕ) (inner outer : Table) → has outer.inputs inner.output ≡ false → take_refusal lists rows inner outer ≡ None
 unfolding take_refusal
 unread_takes lists rows inner outer apart = cases (position (bytes_eq inner.output) outer.inputs) (found outer.inputs inner.output)
@@ -53,7 +54,7 @@ unread_takes lists rows inner outer apart = cases (position (bytes_eq inner.outp
     cases None f = refl
     cases (Some place) f = absurd (false≢true (sym apart ∙ f.2))
 
--- readers
+-- fanouts
 pub reader_there : (slots : List (Option Table)) (at : ℕ) (name : List ℕ) → has (inputs_at slots at) name ≡ true → is_some (table_at slots at) ≡ true
 reader_there slots at name h = cases (table_at slots at) h
   where
@@ -87,7 +88,7 @@ pub own_apart : (placed : Placed) (at : ℕ) (inner : Table) → IsSound (circui
 own_apart placed at inner sound e =
     own_unread (circuit_of placed) inner sound (drives_at placed.slots (tables_differ (circuit_of placed) sound) at inner e)
 
--- the table that stands where one is to be set
+-- the table at an index where one is to be set
 pub before_there : (slots : List (Option Table)) (at : ℕ) → is_some (table_at slots at) ≡ true → (outer : Table) × (table_at slots at ≡ Some outer)
 before_there slots at h = cases (table_at slots at) refl h
   where
@@ -98,7 +99,7 @@ before_there slots at h = cases (table_at slots at) refl h
 pub taken_there : (inner : Table) (slots : List (Option Table)) (at : ℕ) (outer : Table) → table_at slots at ≡ Some outer → slice_get (slots_taken inner slots) at ≡ Some (Some (composed_into inner outer))
 taken_there inner slots at outer e = slice_get-map (option_map (composed_into inner)) slots at ∙ ap (option_map (option_map (composed_into inner))) (place_there slots at outer e)
 
--- what was made is set, one after the other
+-- the tables made are set, one after the other
 module _ {R : Type 0} where
   pub record IsPartly (inner : Table) (left : List (Made R)) (before now : Placed) : Type 0 where
     pub frame : now.frame ≡ before.frame
@@ -189,7 +190,7 @@ module _ {R : Type 0} where
       cases at (inl done) = done
       cases at (inr wait) = absurd (false≢true (ap (λ (ms : List (Made R)). is_in (places_made ms) at) (sym none) ∙ wait.1))
 
--- the readers of an entry
+-- the fanouts of an entry
 module _ {R : Type 0} where
   pub made_all : (placed : Placed) (place : ℕ) (entry : Entry R) (readers : List ℕ) (made : List (Made R)) → Some (written_of entry) ≡ table_at placed.slots place
       → ((at : ℕ) → is_in readers at ≡ has (inputs_at placed.slots at) entry.output) → places_made made ≡ readers → AllByRecursion (IsMade (written_of entry) placed.slots) made

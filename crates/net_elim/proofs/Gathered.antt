@@ -1,4 +1,5 @@
--- Collapse: after each table was taken into its readers, in order, tables read leaves alone; then the inner ones go.
+-- Collapse: after each table was composed into its fanouts, in topological order, tables read
+-- leaves alone; then the inner ones are removed.
 use Rattle.std.proofs.Common.{◌≡◌, ℕ, Bool, true, false, not, ◌||◌, Option, Some, None, option_map, List, [], ◌∷◌, ◌++◌, map, filter, fold, bytes_eq, refl, sym, ap, ◌∙◌, subst, inl, inr, ◌⊎◌}
 use Rattle.std.specs.List.{AllByRecursion}
 use Rattle.std.specs.Option.{option_map_or}
@@ -29,8 +30,9 @@ use Rattle.net_elim.specs.Collapsing.{with_put, is_outer, collapsed, IsCollapsed
 use Rattle.net_elim.proofs.TakenIn.{own_unread, taking_reduced, leaf_apart}
 use Rattle.net_elim.proofs.Stepping.{filter_all, all_weaker, all_there, all_both, each_drives}
 
--- what holds of a circuit that came of another one by taking some of its tables into their readers: only tables changed, the same
--- signals are driven; a table reads of tables what its signal's table read at first; and none reads one that is done
+-- what holds of a circuit in which some tables of another one were composed into their fanouts:
+-- only tables changed; the same signals are driven; of tables a table reads only what its signal's
+-- table read at first; and no table reads one that is done
 record IsUnderway (first : Circuit) (done : List (List ℕ)) (circuit : Circuit) : Type 0 where
   reduced : IsReduced first circuit
   outputs : outputs_of circuit.tables ≡ outputs_of first.tables
@@ -46,7 +48,7 @@ begun circuit sound = record {
   unread = λ signal table input at read. refl;
 }
 
--- the table that drives a signal after one was taken into all
+-- the table that drives a signal after one was composed into all its fanouts
 turned : (circuit : Circuit) (inner : Table) (signal : List ℕ) (table : Table) → driver (map (composed_into inner) circuit.tables) signal ≡ Some table
     → (old : Table) × (driver circuit.tables signal ≡ Some old) × (table ≡ composed_into inner old)
 turned circuit inner signal table at = cases (driver circuit.tables signal) refl (sym (driver_mapped (composed_into inner) (taken_output inner) circuit.tables signal) ∙ at)
@@ -95,7 +97,7 @@ underway_more first done circuit inner way at behind = record {
     sound : IsSound circuit
     sound = way.reduced.change.sound
 
--- the table of a signal is taken into its readers
+-- the table of a signal is composed into its fanouts
 put_more : (first : Circuit) (done : List (List ℕ)) (circuit : Circuit) (name : List ℕ) → IsUnderway first done circuit → has (outputs_of first.tables) name ≡ true
     → ((old : Table) (input : List ℕ) → driver first.tables name ≡ Some old → has old.inputs input ≡ true → has (outputs_of first.tables) input ≡ true → has done input ≡ true)
     → IsUnderway first (done ++ name ∷ []) (with_put circuit name)
@@ -198,7 +200,7 @@ latches_stay circuit sound =
     latches_own (λ name. is_outer circuit name ≡ true) circuit.latches
     (λ name own. outer_free circuit name (has_not (outputs_of circuit.tables) name (λ h. false≢true (sym (no_latch circuit name sound h) ∙ own))))
 
--- tables that came of taking read no table, and what they read are leaves
+-- tables after all compositions read no table, and what they read are leaves
 none_read : (first circuit : Circuit) → IsSound first → IsUnderway first (order_of first.tables) circuit → AllByRecursion (ReadsNone first) circuit.tables
 unfolding ReadsNone
 none_read first circuit sound way =

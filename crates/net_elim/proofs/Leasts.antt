@@ -1,4 +1,4 @@
--- The first least of values at places, and values that are put at places.
+-- The first least value of indices, and values that are set for indices.
 use Rattle.std.proofs.Common.{Less, Equal, Greater, ◌≡◌, ℕ, ◌+◌, ◌<◌, ◌==◌, nat_eq, ℤ, Bool, true, false, cond, if◌then◌else◌, Option, Some, None, is_some, List, length, int_lt, refl, sym, ap, ◌∙◌, arith}
 use Rattle.std.specs.Option.{option_map_or}
 use Rattle.std.proofs.lemmas.Bool.{eq-eqb, ne_eqb, lt-ltb}
@@ -6,7 +6,7 @@ use Rattle.std.proofs.lemmas.Map.Lookups.{exact_signed}
 use Rattle.net_queue.specs.Queue.{rank_in}
 use Rattle.net_elim.specs.Waiting.{waits_at, IsPutAt, IsNext}
 
--- a value that waits is the rank of its place
+-- a value in the queue is the rank of its index
 rank_waits : (values : List (ℕ × ℤ)) (place : ℕ) → rank_in nat_eq (λ (place : ℕ) (value : ℤ). Some value) values place ≡ waits_at values place
 rank_waits values place = cases (waits_at values place)
   where
@@ -14,7 +14,7 @@ rank_waits values place = cases (waits_at values place)
     cases None = refl
     cases (Some value) = refl
 
--- of the values that at a place is least, and no one before it is as small
+-- the value for an index is least, and none for an earlier index is as small
 pub record IsLeast (values : List (ℕ × ℤ)) (place : ℕ) : Type 0 where
   pub value : ℤ
   pub here : waits_at values place ≡ Some value
@@ -47,14 +47,14 @@ first_least values place first = record {
 pub first_none : (values : List (ℕ × ℤ)) → IsNext values None → (place : ℕ) → waits_at values place ≡ None
 first_none values none place = sym (rank_waits values place) ∙ none place
 
--- a value that is put at a place
+-- a value that is set for an index
 pub waits_same : (place : ℕ) (value : Option ℤ) (before after : List (ℕ × ℤ)) → IsPutAt place value before after → (other : ℕ) → place ≡ other → waits_at after other ≡ value
 waits_same place value before after put other same = put other ∙ ap (λ (b : Bool). if b then value else waits_at before other) (eq-eqb place other same)
 
 pub waits_other : (place : ℕ) (value : Option ℤ) (before after : List (ℕ × ℤ)) → IsPutAt place value before after → (other : ℕ) → (place ≡ other → ⊥) → waits_at after other ≡ waits_at before other
 waits_other place value before after put other apart = put other ∙ ap (λ (b : Bool). if b then value else waits_at before other) (ne_eqb place other apart)
 
--- a value that goes
+-- a value that is removed
 pub fewer_waiting : (before mid after : List (ℕ × ℤ)) (place : ℕ) (value : ℤ) (gone : Option ℤ) → waits_at before place ≡ Some value → mid ≡ before → gone ≡ waits_at mid place
     → length after + (if is_some gone then 1 else 0) ≡ length mid → length after < length before
 fewer_waiting before mid after place value gone here same is long = cases gone (is ∙ (ap (λ (values : List (ℕ × ℤ)). waits_at values place) same ∙ here)) long

@@ -1,4 +1,4 @@
--- The inner tables go, and what is left is the collapsed circuit.
+-- The inner tables are removed, and what is left is the collapsed circuit.
 use Rattle.std.proofs.Common.{◌≡◌, ℕ, ◌≤◌, ◌+◌, ◌==◌, Bool, true, false, not, ◌||◌, if◌then◌else◌, Option, Some, None, List, [], fold, filter, length, ltb, refl, sym, ap, ◌∙◌, subst, arith, eqb-true}
 use Rattle.std.specs.List.{AllByRecursion}
 use Rattle.std.proofs.lemmas.Bool.{false≢true, eqb-false, lt-ltb, le-ltb, ltb-true, ltb-false}
@@ -53,7 +53,7 @@ cut_whole count before now cut long at = cut.tables at ∙ cases (ltb at count) 
         let none : table_at before.slots at ≡ None = past_end before.slots at (omega (arith, long, ltb-false at count e)) in
         ap (λ (b : Bool). if b then rooted before.frame (table_at before.slots at) else table_at before.slots at) e ∙ (none ∙ sym (ap (rooted before.frame) none))
 
--- a table is an outer one exactly where it is a root
+-- a table is an outer one exactly if it is a root
 root_framed : (frame : Circuit) (tables : List Table) (name : List ℕ) → is_root (with_tables frame tables) name ≡ is_root frame name
 unfolding is_root
 root_framed frame tables name = refl
@@ -91,7 +91,7 @@ collapsed_whole before put now sound along frame tables =
         ∙ (ap (λ (c : Circuit). filter (λ (table : Table). is_outer (circuit_of before) table.output) c.tables) (sym along.end_same)
         ∙ sym (kept_tables (fold with_put (circuit_of before) (order_of (standing before.slots))) (is_outer (circuit_of before))))
 
--- an inner table goes, a root stays
+-- an inner table is removed, a root stays
 pub inner_gone : (frame : Circuit) (table : Table) (found : Option Table) → Some table ≡ found → (is_inner : Bool) → is_inner ≡ not (is_root frame table.output) → is_inner ≡ true → rooted frame found ≡ None
 inner_gone frame table found there is_inner is inner = ap (rooted frame) (sym there) ∙ cases (is_root frame table.output) (sym is ∙ inner)
   where

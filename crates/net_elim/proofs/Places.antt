@@ -1,4 +1,4 @@
--- Tables at places: what holds of each, and what they become together.
+-- Tables by index: what holds of each, and what they become together.
 use Rattle.std.proofs.Common.{◌≡◌, ℕ, zero, suc, Bool, true, false, ◌&&◌, Result, Ok, Err, IfOk, Option, Some, None, List, [], ◌∷◌, map, slice_get, refl, sym, ap, ◌∙◌, subst}
 use Rattle.std.specs.List.{AllByRecursion, list_all}
 use Rattle.std.specs.Option.{option_map}
@@ -11,14 +11,14 @@ use Rattle.circuit_model.specs.declared.circuit.Table.{Table}
 use Rattle.net_elim.proofs.Stepping.{each_drives}
 use Rattle.net_work.specs.Placed.{standing, table_at}
 
--- two lists that have the same at each place are the same
+-- two lists that have the same item at each index are the same
 pub same_lists : {X : Type 0} (xs ys : List X) → ((at : ℕ) → slice_get xs at ≡ slice_get ys at) → xs ≡ ys
 same_lists [] [] h = refl
 same_lists [] (y ∷ ys) h = absurd (let e : None ≡ Some y = h 0 in cc)
 same_lists (x ∷ xs) [] h = absurd (let e : Some x ≡ None = h 0 in cc)
 same_lists {X} (x ∷ xs) (y ∷ ys) h = ap (λ (z : X). z ∷ xs) (same_Some x y (h 0)) ∙ ap (λ (zs : List X). y ∷ zs) (same_lists xs ys (λ at. h (suc at)))
 
--- what holds of the tables that stand holds at each place
+-- what holds of all tables holds at each index
 pub all_at : (P : Table → Type 0) (slots : List (Option Table)) → AllByRecursion P (standing slots) → (at : ℕ) (t : Table) → table_at slots at ≡ Some t → P t
 unfolding standing
 all_at P [] all at t e = absurd (let z : None ≡ Some t = e in cc)
@@ -30,7 +30,7 @@ all_at P (Some s ∷ slots) all (suc at) t e = all_at P slots all.1 at t e
 pub drives_at : (slots : List (Option Table)) → all_different (outputs_of (standing slots)) ≡ true → (at : ℕ) (t : Table) → table_at slots at ≡ Some t → driver (standing slots) t.output ≡ Some t
 drives_at slots different at t e = all_at (λ (u : Table). driver (standing slots) u.output ≡ Some u) slots (each_drives (standing slots) different) at t e
 
--- tests of the tables that stand
+-- tests of all tables
 pub tests_all : (test : Table → Bool) (slots : List (Option Table)) → ((at : ℕ) (t : Table) → table_at slots at ≡ Some t → test t ≡ true) → list_all test (standing slots) ≡ true
 unfolding standing
 tests_all test [] h = refl
@@ -63,7 +63,7 @@ standing_map turn [] = refl
 standing_map turn (None ∷ slots) = standing_map turn slots
 standing_map turn (Some s ∷ slots) = ap (λ (ts : List Table). turn s ∷ ts) (standing_map turn slots)
 
--- two facts of an answer
+-- two facts of a result
 pub ok_both : {T E : Type 0} (r : Result T E) (P Q S : T → Type 0) → ((x : T) → P x → Q x → S x) → IfOk r P → IfOk r Q → IfOk r S
 ok_both (Ok x) P Q S f p q = f x p q
 ok_both (Err e) P Q S f p q = tt

@@ -1,4 +1,4 @@
--- Places in rising order: those that come before one stand in front of it.
+-- Indices in rising order: those less than a given one come before it.
 use Rattle.std.proofs.Common.{◌≡◌, ℕ, ◌<◌, ◌≤◌, zero, suc, Bool, true, false, ◌||◌, ◌==◌, List, [], ◌∷◌, ◌++◌, take, length, get_or, refl, sym, ap, ◌∙◌, arith, inl, inr, eqb-true, eq-eqb}
 use Rattle.std.specs.List.Sorted.{IsNonDecreasing}
 use Rattle.std.proofs.lemmas.Bool.{false≢true, or_left, or_right, cases_lt}
@@ -28,7 +28,7 @@ before_done places i place at rising long here among lt =
       | inr behind ↦ absurd (let up : get_or places i 0 ≤ get_or places j 0 = rising i j 0 behind short in let at_j : get_or places j 0 ≡ at = is 0 in omega (arith, up, at_j, here, lt))
     ]
 
--- one more place
+-- one more index
 pub in_more : (done : List ℕ) (place at : ℕ) → is_in (done ++ place ∷ []) at ≡ (is_in done at || (place == at))
 in_more done place at = list_any-append (λ (other : ℕ). other == at) done (place ∷ []) ∙ ap (λ (b : Bool). is_in done at || b) (or_nothing (place == at))
   where
@@ -36,13 +36,13 @@ in_more done place at = list_any-append (λ (other : ℕ). other == at) done (pl
     or_nothing true = refl
     or_nothing false = refl
 
--- a place that stands among places
+-- an item of a list of indices
 pub in_at : (places : List ℕ) (i place : ℕ) → i < length places → place ≡ get_or places i 0 → is_in places place ≡ true
 in_at [] i place lt is = absurd (omega (arith, lt))
 in_at (first ∷ places) zero place lt is = or_left (first == place) (is_in places place) (eq-eqb first place (sym is))
 in_at (first ∷ places) (suc i) place lt is = or_right (first == place) (is_in places place) (in_at places i place (omega (arith, lt)) is)
 
--- what is not among places is not among the first of them
+-- what is not among indices is not among the first of them
 pub not_in_take : (places : List ℕ) (i at : ℕ) → is_in places at ≡ false → is_in (take i places) at ≡ false
 not_in_take [] zero at h = refl
 not_in_take [] (suc i) at h = refl

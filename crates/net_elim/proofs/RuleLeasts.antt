@@ -29,7 +29,7 @@ all_append : (P : Table → Type 0) (front back : List Table) → AllByRecursion
 all_append P [] back p q = q
 all_append P (first ∷ front) back p q = (p.0, all_append P front back p.1 q)
 
--- the later ones give way to a table that is no greater
+-- the later tables are not chosen if a table is no greater
 none_lesser : (value : Table → ℤ) (tables : List Table) (table other : Table) → IsFirstLeast value tables other → int_lt (value other) (value table) ≡ false
     → AllByRecursion (λ third. int_lt (value third) (value table) ≡ false) tables
 none_lesser value tables table other least over =

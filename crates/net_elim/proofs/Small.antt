@@ -1,5 +1,5 @@
--- Tables that take others in stay within the bounds of a network, and so does a network after
--- elimination.
+-- Tables into which others are composed keep within the bounds of a network, and so does a network
+-- after elimination.
 use Rattle.std.proofs.Common.{◌≡◌, ℕ, ℤ, ◌+◌, ◌<◌, ◌≤◌, ◌^◌, suc, Bool, true, false, not, ◌&&◌, ◌||◌, if◌then◌else◌, Option, Some, None, List, [], ◌∷◌, map, filter, length, ltb, refl, sym, ap, ◌∙◌, subst, arith}
 use Rattle.std.specs.Prelude.{is_none, int_lt}
 use Rattle.std.specs.List.{AllByRecursion, list_all}
@@ -26,7 +26,7 @@ use Rattle.net_elim.specs.Eliminating.{all_take, is_candidate, least, with_elimi
 use Rattle.net_elim.proofs.Stepping.{filter_all, all_weaker, least_all, step_reduced}
 use Rattle.sis_base.specs.declared.limits.TheConstants.{MAX_ROWS}
 
--- what tidying makes has at most one row more, and no more inputs
+-- the normal form has at most one row more, and no more inputs
 folded_few : (table : Table) → length (folded table).rows ≤ suc (length table.rows)
 unfolding folded with_rows
 folded_few table = cases (all_different table.inputs)
@@ -133,7 +133,7 @@ taken_bounded most inner outer small none bounded = cases (read_place inner oute
           inputs = omega (arith, inputs, tidied_inputs (composed_at place inner outer));
         }
 
--- all readers of a table that they can take in stay small
+-- all fanouts of a table that they can take stay small
 refuses_nothing : {A : Type 0} (found : Option A) → is_none found ≡ true → found ≡ None
 refuses_nothing None h = refl
 refuses_nothing (Some fault) h = cc
@@ -259,7 +259,7 @@ chain_bounded threshold rows circuit new small sound chain bounds =
     leads_bounded threshold rows chain.reached.between circuit new
     (omega (arith, small)) sound chain.reached.steps bounds
 
--- the chain that the working network went, as one of the network
+-- the chain of steps of the working network, as one of the network
 pub chain_told : (threshold kept : ℤ) (rows : ℕ) (network begun end made : Circuit)
     → kept ≡ threshold
     → begun ≡ network → made ≡ end → Chain (eliminate_step kept rows) begun end

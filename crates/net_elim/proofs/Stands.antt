@@ -1,4 +1,4 @@
--- Tables at places and the tables that stand: what agrees at each place agrees in the list.
+-- Tables by index and the list of all tables: what agrees at each index agrees in the list.
 use Rattle.std.proofs.Common.{◌≡◌, ℕ, ◌≤◌, zero, suc, Bool, true, false, if◌then◌else◌, Option, Some, None, List, [], ◌∷◌, map, filter, length, set, is_some, refl, sym, ap, ◌∙◌, subst, arith}
 use Rattle.std.specs.Option.{option_map}
 use Rattle.std.specs.List.{AllByRecursion}
@@ -12,7 +12,7 @@ use Rattle.net_work.specs.Placed.{standing, joined, table_at, name_at}
 use Rattle.net_work.proofs.Standing.{place_there}
 use Rattle.net_elim.specs.Phases.{rooted}
 
--- no table at any place
+-- no table at any index
 none_stand : (slots : List (Option Table)) → ((at : ℕ) → table_at slots at ≡ None) → standing slots ≡ []
 unfolding standing
 none_stand [] h = refl
@@ -23,7 +23,7 @@ no_table : (turn : Table → Table) (found : Option Table) → None ≡ option_m
 no_table turn None h = refl
 no_table turn (Some table) h = absurd (none-some (turn table) h)
 
--- each table is turned
+-- each table is changed
 pub standing_mapped : (turn : Table → Table) (slots others : List (Option Table)) → ((at : ℕ) → table_at others at ≡ option_map turn (table_at slots at)) → standing others ≡ map turn (standing slots)
 unfolding standing
 standing_mapped turn [] others h = none_stand others h
@@ -55,7 +55,7 @@ outputs_same (slot ∷ slots) (other ∷ others) h = cases other slot (h 0) (out
     cases (Some table) (Some first) e rest =
         ap (λ (name : List ℕ). name ∷ outputs_of (standing others)) (same_Some table.output first.output e) ∙ ap (λ (names : List (List ℕ)). first.output ∷ names) rest
 
--- what holds of the tables at places holds of those that stand, and the other way
+-- what holds of the tables at indices holds of all tables, and conversely
 pub stand_all : (P : Table → Type 0) (slots : List (Option Table)) → ((at : ℕ) (table : Table) → table_at slots at ≡ Some table → P table) → AllByRecursion P (standing slots)
 unfolding standing
 stand_all P [] h = tt
@@ -94,20 +94,20 @@ standing_rooted frame test (Some table ∷ slots) (other ∷ others) same h =
     cases false e rest =
         rest ∙ ap (λ (b : Bool). if b then table ∷ filter test (standing slots) else filter test (standing slots)) (sym (same.0 ∙ e))
 
--- a place that is written
+-- an index that is written
 pub written_there : (slots : List (Option Table)) (place : ℕ) (table : Table) (new : Option Table) → table_at slots place ≡ Some table → table_at (set slots place new) place ≡ new
 written_there slots place table new at = ap joined (get_set_same slots place (Some table) new (place_there slots place table at))
 
 pub written_elsewhere : (slots : List (Option Table)) (place at : ℕ) (new : Option Table) → (at ≡ place → ⊥) → table_at (set slots place new) at ≡ table_at slots at
 written_elsewhere slots place at new apart = ap joined (get_set_other slots place at new apart)
 
--- behind the last place
+-- past the last index
 pub past_end : (slots : List (Option Table)) (at : ℕ) → length slots ≤ at → table_at slots at ≡ None
 past_end [] at h = refl
 past_end (slot ∷ slots) zero h = absurd (omega (arith, h))
 past_end (slot ∷ slots) (suc at) h = past_end slots at (omega (arith, h))
 
--- a place that has a table
+-- an index that has a table
 pub some_there : (found : Option Table) → is_some found ≡ true → (table : Table) × (found ≡ Some table)
 some_there None h = absurd cc
 some_there (Some table) h = (table, refl)

@@ -1,4 +1,5 @@
--- Steps of elimination: the least of the candidates is one of them; what a step keeps; where it ends.
+-- Steps of elimination: the least of the candidates is one of them; what a step keeps; which form
+-- the last circuit has.
 use Rattle.std.proofs.Common.{◌≡◌, ℕ, ℤ, Bool, true, false, not, ◌&&◌, cond, Option, Some, None, option_map, List, [], ◌∷◌, filter, int_lt, refl, sym, ap, ◌∙◌, subst, inl, inr, ◌⊎◌}
 use Rattle.std.specs.List.{AllByRecursion}
 use Rattle.std.proofs.lemmas.Bool.{false≢true, and_parts, not-true}
@@ -116,7 +117,7 @@ step_reduced threshold rows circuit new sound e =
     (filter_all (λ table. driver circuit.tables table.output ≡ Some table) (is_candidate threshold rows circuit) circuit.tables (each_drives circuit.tables (tables_differ circuit sound))) inner found in
     subst (IsReduced circuit) is (eliminated_reduced circuit inner sound both.0 (candidate_inside threshold rows circuit inner both.1))
 
--- where no step applies
+-- if no step applies
 pub step_finished : (threshold : ℤ) (rows : ℕ) (circuit : Circuit) → eliminate_step threshold rows circuit ≡ None → IsEliminated threshold rows circuit
 unfolding eliminate_step is_candidate
 step_finished threshold rows circuit e =

@@ -1,4 +1,5 @@
--- Steps of elimination on a network at work: which table is next, what comes when it goes, and that the tables grow fewer.
+-- Steps of elimination on a working network: which table is next, what removing it makes, and that
+-- the number of tables falls.
 use Rattle.std.proofs.Common.{◌≡◌, ℕ, ◌+◌, ◌<◌, ◌≤◌, ◌==◌, zero, suc, ℤ, Bool, true, false, not, ◌&&◌, ◌||◌, Result, Ok, IfOk, cond, if◌then◌else◌, Option, Some, None, is_some, List, [], ◌∷◌, ◌++◌, length, map, filter, bytes_eq, int_lt, set, refl, sym, ap, ap₂, ◌∙◌, subst, arith}
 use Rattle.std.specs.List.{AllByRecursion}
 use Rattle.std.specs.Option.{option_map, option_map_or}
@@ -34,7 +35,7 @@ use Rattle.net_elim.proofs.Leasts.{IsLeast, first_none, waits_same, waits_other}
 use Rattle.net_elim.proofs.Places.{drives_at, standing_map}
 use Rattle.net_elim.proofs.Fanouts.{taken_there}
 
--- a table that goes
+-- a table that is removed
 without_none : (tables : List Table) (name : List ℕ) → has (outputs_of tables) name ≡ false → without tables name ≡ tables
 unfolding tables_kept
 without_none [] name h = refl
@@ -153,7 +154,7 @@ least_at value test (Some s ∷ slots) (suc place) t e h no_lesser greater =
     cases true k rest = ap (λ (later : Option Table). Some (lesser value s later)) rest ∙ ap (λ (b : Bool). Some (cond b t s)) (greater 0 s (omega arith) refl k)
     cases false k rest = rest
 
--- what waits
+-- the values in the queue
 when_some : (b : Bool) (v w : ℤ) → when b v ≡ Some w → (b ≡ true) × (v ≡ w)
 when_some true v w e = (refl, same_Some v w e)
 when_some false v w e = absurd (let z : None ≡ Some w = e in cc)
@@ -209,7 +210,7 @@ worth_answered threshold placed place entry inner found made there root value h 
     worth_counted threshold placed place entry inner h.0 made there root
     (subst (λ r. IfOk r (λ v. (t : Table) → table_at placed.slots place ≡ Some t → v ≡ value_of (standing placed.slots) t.output)) h.1 value) h.2
 
--- one value more
+-- one more value
 pub record AreBegun (threshold : ℤ) (placed : Placed) (count : ℕ) (values : List (ℕ × ℤ)) : Type 0 where
   pub worth : (place : ℕ) (value : ℤ) → waits_at values place ≡ Some value → worth_at threshold placed place ≡ Some value
   pub each : (place : ℕ) → place < count → waits_at values place ≡ worth_at threshold placed place
@@ -247,7 +248,7 @@ begun_waiting threshold rows placed count values long are = record {
   all = λ place t e h. (let within = place_within placed.slots place t e in are.each place (omega (arith, long, within)));
 }
 
--- a value that waits is that of a table
+-- a value in the queue is that of a table
 pub waits_there : (threshold : ℤ) (rows : ℕ) (placed : Placed) (values : List (ℕ × ℤ)) (place : ℕ) (v : ℤ) → AreWaiting threshold rows placed values → waits_at values place ≡ Some v
     → (t : Table) × (table_at placed.slots place ≡ Some t)
 waits_there threshold rows placed values place v are here = cases (table_at placed.slots place) refl (are.worth place v here)
@@ -259,7 +260,7 @@ waits_there threshold rows placed values place v are here = cases (table_at plac
 pub there_is : (threshold : ℤ) (rows : ℕ) (placed : Placed) (values : List (ℕ × ℤ)) (place : ℕ) (v : ℤ) → AreWaiting threshold rows placed values → waits_at values place ≡ Some v → is_some (table_at placed.slots place) ≡ true
 there_is threshold rows placed values place v are here = let (t, e) = waits_there threshold rows placed values place v are here in ap is_some e
 
--- the next one
+-- the next table
 pub step_found : (threshold : ℤ) (rows : ℕ) (placed : Placed) (values : List (ℕ × ℤ)) (place : ℕ) → AreWaiting threshold rows placed values → IsLeast values place
     → (inner : Table) → table_at placed.slots place ≡ Some inner → all_take rows (circuit_of placed) inner ≡ true → eliminate_step threshold rows (circuit_of placed) ≡ Some (with_eliminated (circuit_of placed) inner)
 unfolding eliminate_step
@@ -290,7 +291,7 @@ step_none threshold rows placed values are none =
     are.all place t at fits ∙ (worth_of_table threshold placed place t at ∙ (candidate_worth threshold rows placed t fits).0) in
     absurd (let z : None ≡ Some (value_of (standing placed.slots) t.output) = sym (first_none values none place) ∙ waits in cc)))
 
--- the answers of a try
+-- the results of an attempt
 pub step_done : (threshold : ℤ) (rows : ℕ) (placed next : Placed) (values : List (ℕ × ℤ)) (place : ℕ) (done : Bool) → AreWaiting threshold rows placed values → IsLeast values place → done ≡ true
     → ((inner : Table) → table_at placed.slots place ≡ Some inner → done ≡ all_take rows (circuit_of placed) inner)
     → (done ≡ true → (inner : Table) → table_at placed.slots place ≡ Some inner → circuit_of next ≡ with_eliminated (circuit_of placed) inner) → eliminate_step threshold rows (circuit_of placed) ≡ Some (circuit_of next)
@@ -310,7 +311,7 @@ chosen bit o next is h = is ∙ ap (λ (b : Bool). if b then Some next else None
 pub refused : (bit : Bool) (o : Option Circuit) (next : Circuit) → o ≡ (if bit then Some next else None) → bit ≡ false → o ≡ None
 refused bit o next is h = is ∙ ap (λ (b : Bool). if b then Some next else None) h
 
--- one that is refused waits no more
+-- a table that is refused is removed from the queue
 waiting_less : (threshold : ℤ) (rows : ℕ) (placed : Placed) (before after : List (ℕ × ℤ)) (place : ℕ) (done : Bool) → AreWaiting threshold rows placed before → IsPutAt place None before after → done ≡ false
     → ((inner : Table) → table_at placed.slots place ≡ Some inner → done ≡ all_take rows (circuit_of placed) inner) → AreWaiting threshold rows placed after
 waiting_less threshold rows placed before after place done are put none answer = record {

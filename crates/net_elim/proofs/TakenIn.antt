@@ -1,4 +1,5 @@
--- A table is taken into all that read it: the circuit is sound, each signal keeps its value, and nothing reads the table any more.
+-- A table is composed into all its fanouts: the circuit is sound, each signal keeps its value, and
+-- no table reads the composed one any more.
 use Rattle.std.proofs.Common.{◌≡◌, ℕ, ◌+◌, suc, Bool, true, false, not, ◌&&◌, Some, List, [], ◌∷◌, ◌++◌, map, refl, sym, ◌∙◌, subst, arith, inl, inr, ◌⊎◌}
 use Rattle.std.specs.List.{AllByRecursion}
 use Rattle.std.proofs.lemmas.Bool.{false≢true, or_from}
@@ -78,7 +79,7 @@ none_read inner apart [] once = refl
 none_read inner apart (table ∷ tables) once =
     has_none (composed_into inner table).inputs (table_inputs (map (composed_into inner) tables)) inner.output (taken_unread inner table once.0 apart) (none_read inner apart tables once.1)
 
--- what a table drives is no leaf
+-- what a table drives is not a leaf
 pub leaf_apart : (circuit : Circuit) (name : List ℕ) → IsSound circuit → has (outputs_of circuit.tables) name ≡ true → has (leaf_names circuit) name ≡ false
 unfolding given
 leaf_apart circuit name sound drives =
@@ -87,7 +88,8 @@ leaf_apart circuit name sound drives =
     (has_not circuit.inputs name (λ h. first.between name h (has_back (latch_outputs circuit) (outputs_of circuit.tables) name drives)))
     (no_latch circuit name sound drives)
 
--- what the don't-care part reads of a sound circuit is no table's signal, but where it has one of its own
+-- what the don't-care part of a sound circuit reads is not a table's signal, unless it has a table
+-- of its own for it
 pub part_apart : (circuit : Circuit) (name : List ℕ) → IsSound circuit → has (outputs_of circuit.tables) name ≡ true
     → (not (has (outputs_of circuit.dont_care) name) && has (table_inputs circuit.dont_care) name) ≡ false
 part_apart circuit name sound drives = cases (has (outputs_of circuit.dont_care) name) refl (has (table_inputs circuit.dont_care) name) refl
@@ -105,7 +107,7 @@ part_apart circuit name sound drives = cases (has (outputs_of circuit.dont_care)
           | inr leaf ↦ absurd (false≢true (sym apart ∙ leaf))
         ]
 
--- a table is taken into all that read it, and goes
+-- a table is composed into all its fanouts, and removed
 rootless : (circuit : Circuit) (tables : List Table) (name : List ℕ) → is_root (with_tables circuit tables) name ≡ is_root circuit name
 unfolding is_root
 rootless circuit tables name = refl

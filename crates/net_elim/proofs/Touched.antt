@@ -1,4 +1,5 @@
--- Places that an elimination touches, gathered one after the other, and values that are made anew there.
+-- Indices that an elimination touches, gathered one after the other, and values that are recomputed
+-- there.
 use Rattle.std.proofs.Common.{◌≡◌, ℕ, ◌+◌, ◌<◌, ◌==◌, ℤ, Bool, true, false, Option, Some, None, List, [], ◌∷◌, ◌++◌, length, is_none, bytes_eq, take, get_or, refl, sym, ap, ◌∙◌, subst, inl, inr, ◌⊎◌}
 use Rattle.std.specs.Option.{option_map}
 use Rattle.std.proofs.lemmas.Bool.{false≢true, eqb-true, eqb-false, eq-eqb, or_left, or_right, or_cases}
@@ -29,7 +30,7 @@ use Rattle.net_elim.proofs.Steps.{there_named, worth_of_table, candidate_worth, 
 use Rattle.net_elim.proofs.Uses.{IsUntouched, same_place, slot_left, worth_left}
 use Rattle.sis_base.specs.declared.limits.TheConstants.{MAX_ROWS}
 
--- a place behind others
+-- an index after others
 in_more : (places : List ℕ) (place at : ℕ) → is_in (places ++ place ∷ []) at ≡ true → (is_in places at ≡ true) ⊎ (place ≡ at)
 in_more [] place at h =
     elim (or_cases (place == at) false h) as (λ _. (false ≡ true) ⊎ (place ≡ at)) [ inl e ↦ inr (eqb-true place at e) | inr e ↦ inl e ]
@@ -91,7 +92,7 @@ grown_more slots names i name before now next lt is old new =
           ];
     })
 
--- a table with those that drive its inputs
+-- a table and those that drive its inputs
 pub joined_pushed : {R : Type 0} (slots : List (Option Table)) (place : ℕ) (entry : Entry R) (names : List (List ℕ)) (before mid after : List ℕ) → Some (written_of entry) ≡ table_at slots place → names ≡ entry.table.inputs
     → mid ≡ before ++ place ∷ [] → IsGrown slots names mid after → IsJoined slots place before after
 unfolding named
@@ -110,7 +111,7 @@ covered_more slots before after place more h = record {
   drivers = λ at table e k. more at (h.drivers at table e k);
 }
 
--- the table at a place and the first of its readers
+-- the table at an index and the first of its fanouts
 pub record ArePartly (slots : List (Option Table)) (place : ℕ) (done places : List ℕ) : Type 0 where
   pub own : IsCovered slots places place
   pub readers : (at : ℕ) → is_in done at ≡ true → IsCovered slots places at
@@ -141,7 +142,7 @@ touched_all slots place entry readers places there are h inner e =
       readers = λ at k. h.readers at (are at ∙ k);
     })
 
--- what the tables at other places are worth
+-- the values of the tables at other indices
 untouched : (slots : List (Option Table)) (place at : ℕ) (inner t : Table) (places : List ℕ) → table_at slots place ≡ Some inner → AreTouched slots inner.output place places → is_in places at ≡ false → table_at slots at ≡ Some t
     → (has t.inputs inner.output ≡ false) × IsUntouched slots inner t.output
 untouched slots place at inner t places e h out there = (
@@ -154,7 +155,7 @@ untouched slots place at inner t places e h out there = (
   },
 )
 
--- a table that is not touched is taken in after a step only where it is before
+-- the fanouts of an untouched table can take it after a step only if they could before
 takes_before : (rows : ℕ) (placed next : Placed) (place : ℕ) (inner t : Table) → table_at placed.slots place ≡ Some inner → next ≡ with_slot (with_put inner placed) place None → IsUntouched placed.slots inner t.output
     → all_take rows (circuit_of next) t ≡ true → all_take rows (circuit_of placed) t ≡ true
 unfolding all_take
@@ -175,7 +176,7 @@ takes_before rows placed next place inner t e is untouched h =
             let own : inner ≡ u = same_Some inner u (sym e ∙ (ap (table_at placed.slots) (sym same) ∙ there)) in
             false≢true (sym untouched.own ∙ (ap (λ (v : Table). has v.inputs t.output) own ∙ k))
 
--- values made anew where an elimination touched them
+-- values recomputed where an elimination touched them
 pub waiting_stepped : (threshold : ℤ) (rows : ℕ) (placed next : Placed) (place : ℕ) (inner : Table) (places : List ℕ) (before after : List (ℕ × ℤ)) → IsSound (circuit_of placed) → table_at placed.slots place ≡ Some inner
     → next ≡ with_slot (with_put inner placed) place None → AreTouched placed.slots inner.output place places → AreWaiting threshold rows placed before → AreRenewed threshold next places before after
     → AreWaiting threshold rows next after
@@ -217,7 +218,7 @@ waiting_stepped threshold rows placed next place inner places before after sound
             renewed.others at out
             ∙ (are.all at t stood (worth_candidate threshold rows placed t (value_of (standing next.slots) t.output) worths takes) ∙ sym (stays at out))
 
--- one value after the other anew
+-- values recomputed one after the other
 pub renewed_begun : (threshold : ℤ) (placed : Placed) (values : List (ℕ × ℤ)) → AreRenewed threshold placed [] values values
 renewed_begun threshold placed values = record {
   there = λ at h. absurd (false≢true h);

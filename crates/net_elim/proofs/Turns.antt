@@ -1,4 +1,5 @@
--- A table that is taken into those that read it, one after the other: what stands then, and who refuses first.
+-- A table is composed into its fanouts, one after the other: the network at each step, and the
+-- first fanout that refuses.
 use Rattle.std.proofs.Common.{◌≡◌, ℕ, ◌+◌, ◌<◌, ◌≤◌, zero, suc, Bool, true, false, ◌||◌, if◌then◌else◌, ◌==◌, Option, Some, None, List, [], ◌∷◌, ◌++◌, take, length, get_or, set, position, bytes_eq, is_some, refl, sym, ap, ◌∙◌, subst, arith, inl, inr, eqb-true, ◌⊎◌, rules}
 use Rattle.std.specs.List.Sorted.{IsNonDecreasing}
 use Rattle.std.proofs.lemmas.List.{take_more, take_all}
@@ -52,7 +53,7 @@ unfolding take_refusal
 unread_takes list_limit row_limit inner outer apart =
     ap (λ (o : Option ℕ). option_map_or (λ place. refusal_at list_limit row_limit place inner outer) o None) (none_position outer.inputs inner.output apart)
 
--- a cause that comes first, and none
+-- a first cause, and none
 pub cause_or : (first rest : Option (List ℕ × ComposeFault)) (fault : CollapseFault) → IsCause first fault → IsCause (option_or first rest) fault
 cause_or first rest (CubeLimit name) h = ap (λ (o : Option (List ℕ × ComposeFault)). option_or o rest) h
 cause_or first rest (TooWide name count) h = ap (λ (o : Option (List ℕ × ComposeFault)). option_or o rest) h
@@ -87,11 +88,11 @@ first_found inner (Some table ∷ slots) (suc place) outer at before =
     let (rest, is) = first_found inner slots place outer at (λ i other lt. before (suc i) other (omega (arith, lt))) in
     (rest, ap (λ (o : Option ComposeFault). option_or (named_fault table o) (refusal_among inner (standing slots))) (before 0 table (omega arith) refl) ∙ is)
 
--- nothing is done yet
+-- no fanout is done yet
 pub put_begun : (inner : Table) (placed : Placed) → IsPut inner [] placed placed
 put_begun inner placed = record { frame = refl; tables = λ at. refl; within = λ at outer h. absurd (false≢true h) }
 
--- a reader stands as it was taken in, or as it was before its turn
+-- a fanout has the table composed into it, or is as it was before its step
 now_there : (inner : Table) (done : List ℕ) (before now : Placed) (reader : ℕ) (outer : Table) → IsPut inner done before now → table_at before.slots reader ≡ Some outer
     → (table_at now.slots reader ≡ Some (composed_into inner outer)) ⊎ ((is_in done reader ≡ false) × (table_at now.slots reader ≡ Some outer))
 now_there inner done before now reader outer put at = cases (is_in done reader) refl
@@ -103,7 +104,7 @@ now_there inner done before now reader outer put at = cases (is_in done reader) 
     cases true e = inl (here true e ∙ ap (option_map (composed_into inner)) at)
     cases false e = inr (e, here false e ∙ at)
 
--- a place that had no turn keeps its table
+-- an index without a step keeps its table
 pub still_there : (inner : Table) (done : List ℕ) (before now : Placed) (place : ℕ) → IsPut inner done before now → is_in done place ≡ false → table_at now.slots place ≡ table_at before.slots place
 still_there inner done before now place put apart =
     put.tables place ∙ ap (λ (x : Bool). if x then option_map (composed_into inner) (table_at before.slots place) else table_at before.slots place) apart
@@ -115,7 +116,7 @@ some_now inner done before now reader outer put at =
       | inr e ↦ ap is_some e.1
     ]
 
--- one more reader
+-- one more fanout
 pub put_more : (inner : Table) (done : List ℕ) (before now new : Placed) (reader : ℕ) (outer : Table) → IsPut inner done before now → has inner.inputs inner.output ≡ false
     → table_at before.slots reader ≡ Some outer → all_different outer.inputs ≡ true
     → ((table : Table) → table_at now.slots reader ≡ Some table → new ≡ with_slot now reader (Some (composed_into inner table)))
@@ -172,7 +173,7 @@ put_more inner done before now new reader outer put apart at once set_there take
             let same : reader ≡ i = eqb-true reader i k in
             takes other (still_there inner done before now reader put (ap (is_in done) same ∙ e) ∙ (ap (table_at before.slots) same ∙ other_at))
 
--- all readers are done
+-- all fanouts are done
 read_at : (slots : List (Option Table)) (at : ℕ) (outer : Table) (name : List ℕ) → table_at slots at ≡ Some outer → has (inputs_at slots at) name ≡ has outer.inputs name
 read_at slots at outer name there = ap (λ (o : Option Table). has (inputs_in o) name) there
 
@@ -197,7 +198,7 @@ pub none_complete : (inner : Table) (readers : List ℕ) (before now : Placed) �
 none_complete inner readers before now put exact =
     none_refuses inner before.slots (λ at outer there. takes_there inner before (is_in readers at) at outer there (exact at) (λ among. put.within at outer among there))
 
--- the first refusal in the order of places
+-- the first refusal in the order of indices
 pub refused_first : (inner : Table) (readers : List ℕ) (before now : Placed) (i reader : ℕ) (outer : Table) → IsPut inner (take i readers) before now → ((at : ℕ) → is_in readers at ≡ has (inputs_at before.slots at) inner.output)
     → (rises : (at : ℕ) → is_in readers at ≡ true → at < reader → is_in (take i readers) at ≡ true) → has inner.inputs inner.output ≡ false
     → table_at before.slots reader ≡ Some outer → all_different outer.inputs ≡ true
@@ -212,7 +213,7 @@ refused_first inner readers before now i reader outer put exact rises apart at o
           subst (λ (o : Option (List ℕ × ComposeFault)). IsCause o fault) (sym is) (cause_or (named_fault outer (take_refusal MAX_ROWS MAX_ROWS inner outer)) rest fault (cause outer e.1))
     ]
 
--- what is known before a reader's turn
+-- what holds before the step of a fanout
 pub record IsStep (before now : Placed) (place : ℕ) (readers : List ℕ) (i reader : ℕ) : Type 0 where
   pub sound : IsSound (circuit_of before)
   pub there : is_some (table_at before.slots place) ≡ true
@@ -280,6 +281,6 @@ step_refused before now place readers i reader step fault cause inner at =
     (λ p among lt. before_done readers i reader p step.rising step.long step.is among lt)
     (own_apart before place inner step.sound at) there (inputs_once before reader outer step.sound there) fault (λ table now_at. cause inner table stays now_at)
 
--- at the end all readers had their turns
+-- at the end all fanouts are done
 pub put_ended : (inner : Table) (readers : List ℕ) (i : ℕ) (before now : Placed) → IsPut inner (take i readers) before now → length readers ≤ i → IsPut inner readers before now
 put_ended inner readers i before now put long = subst (λ (done : List ℕ). IsPut inner done before now) (take_all i readers long) put

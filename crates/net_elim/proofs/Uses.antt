@@ -1,4 +1,5 @@
--- What a table is worth stays where another one is eliminated, if it does not read that one, and drives no input of it or of a reader.
+-- The value of a table stays when another one is eliminated if it does not read that one, and
+-- drives no input of it or of its fanouts.
 use Rattle.std.proofs.Common.{◌≡◌, ℕ, ◌+◌, ◌*◌, zero, suc, ℤ, pos, ◌-ℤ◌, Bool, true, false, not, ◌&&◌, Option, Some, None, List, [], ◌∷◌, map, bytes_eq, position, int_lt, slice_get, set, refl, sym, ap, ap₂, ◌∙◌, subst, arith, inl, inr}
 use Rattle.std.specs.Option.{option_map, option_map_or}
 use Rattle.std.proofs.lemmas.Bool.{false≢true}
@@ -50,7 +51,7 @@ taken_uses inner t name own others = cases (has t.inputs inner.output) refl
     cases true reads =
         unread_unused name (composed_into inner t) (has_not (composed_into inner t).inputs name (gone reads)) ∙ sym (unread_unused name t (others reads))
 
--- neither a table nor any that reads it reads a name
+-- neither a table nor any of its fanouts reads a name
 pub record IsUntouched (slots : List (Option Table)) (inner : Table) (name : List ℕ) : Type 0 where
   pub own : has inner.inputs name ≡ false
   pub readers : (at : ℕ) (t : Table) → table_at slots at ≡ Some t → has t.inputs inner.output ≡ true → has t.inputs name ≡ false
@@ -78,7 +79,7 @@ uses_left slots place inner name e h =
     let none : slot_uses name None ≡ 0 = refl in
     omega (arith, uses_set name (slots_taken inner slots) place (Some (composed_into inner inner)) None (taken_there inner slots place inner e), uses_taken slots inner name h, own, none)
 
--- tables of one name stand at one place
+-- tables of one name have one index
 name_below : (s : Table) (slots : List (Option Table)) (j : ℕ) (a b : Table) → all_different (s.output ∷ outputs_of (standing slots)) ≡ true → Some s ≡ Some a → table_at slots j ≡ Some b → a.output ≡ b.output → ⊥
 name_below s slots j a b different e f same =
     false≢true (sym (different_head s.output (outputs_of (standing slots)) different)
@@ -119,7 +120,7 @@ value_left slots place at inner t different e there apart unread h =
     ap₂ (λ (uses literals : ℕ). pos (uses * literals) -ℤ pos uses -ℤ pos literals) (uses_left slots place inner t.output e h)
     (ap literals_in (driver_left slots place at inner t different e there apart unread ∙ sym (drives_at slots different at t there)))
 
--- what it is worth
+-- its value
 pub slot_left : (slots : List (Option Table)) (place at : ℕ) (inner : Table) → (at ≡ place → ⊥) → table_at (set (slots_taken inner slots) place None) at ≡ option_map (composed_into inner) (table_at slots at)
 slot_left slots place at inner apart =
     ap joined (get_set_other (slots_taken inner slots) place at None apart) ∙ (ap joined (slice_get-map (option_map (composed_into inner)) slots at) ∙ cases (slice_get slots at))

@@ -26,8 +26,8 @@ pub record IsPutInAll (inner : Table) (before now : Placed) : Type 0 where
   pub frame : now.frame ≡ before.frame
   pub tables : (at : ℕ) → table_at now.slots at ≡ option_map (composed_into inner) (table_at before.slots at)
 
--- what is left of an order leads where the whole order led, and refuses what the whole order
--- refused
+-- the rest of an order ends with the circuit with which the whole order ends, and has the same
+-- refusal
 pub record IsAlong (names left : List (List ℕ)) (before now : Placed) : Type 0 where
   pub frame : now.frame ≡ before.frame
   pub names_stay : (at : ℕ) → name_at now.slots at ≡ name_at before.slots at

@@ -15,11 +15,11 @@ use Rattle.net_work.specs.Slots.{inputs_at}
 use Rattle.alg_tables.specs.Taking.{composed_into}
 use Rattle.net_elim.specs.declared.putting.Made.{Made}
 
--- the tables at indices, a table composed into all its fanouts
+-- the tables by index after a table was composed into all its fanouts
 abbrev pub slots_taken : Table → List (Option Table) → List (Option Table)
 slots_taken inner slots = map (option_map (composed_into inner)) slots
 
--- the network, a table composed into all its fanouts
+-- the network after a table was composed into all its fanouts
 abbrev pub with_put : Table → Placed → Placed
 with_put inner placed = record placed { slots = slots_taken inner placed.slots }
 

@@ -26,8 +26,8 @@ use net_core::Network;
 use net_work::WorkingNetwork;
 use std::alloc::{AllocError, Global};
 
-/// The table at a place is taken into all that read it, and goes; or a reader cannot take it in,
-/// and nothing changed. An error only for want of memory, and then any network may stand.
+/// Eliminates the table at an index: it is composed into all its fanouts, and removed. False if a
+/// fanout cannot take it, and then nothing changed. After an error the network may be any.
 pub(crate) fn eliminate_at<R: Row>(
     alloc: Global,
     work: &mut WorkingNetwork<R>,
@@ -57,7 +57,7 @@ pub(crate) fn eliminate_at<R: Row>(
     }
 }
 
-// A value, where it counts and is not above a threshold.
+// A value, if it counts and is not above a threshold.
 fn counted(
     counts: bool,
     value: Result<i128, AllocError>,
@@ -78,7 +78,8 @@ fn counted(
     }
 }
 
-// What the table at a place is worth, where it is no root's and not worth more than a threshold.
+// The elimination value of the table at an index, if it is no root and its value is not above a
+// threshold.
 fn worth_of<R: Row>(
     work: &WorkingNetwork<R>,
     place: usize,
@@ -92,7 +93,7 @@ fn worth_of<R: Row>(
     }
 }
 
-// Makes what the table at a place is worth anew.
+// Recomputes the value of the table at an index.
 fn renew<R: Row>(
     alloc: Global,
     work: &WorkingNetwork<R>,
@@ -106,7 +107,7 @@ fn renew<R: Row>(
     put(alloc, waiting, place, worth_of(work, place, threshold)?)
 }
 
-// What the tables at all places are worth.
+// The values of the tables at all indices.
 fn all_worths<R: Row>(
     alloc: Global,
     work: &WorkingNetwork<R>,
@@ -121,7 +122,7 @@ fn all_worths<R: Row>(
     Ok(waiting)
 }
 
-// Makes what the tables at some places are worth anew.
+// Recomputes the values of the tables at some indices.
 fn renew_all<R: Row>(
     alloc: Global,
     work: &WorkingNetwork<R>,
@@ -137,8 +138,8 @@ fn renew_all<R: Row>(
     Ok(())
 }
 
-// The table at a place is eliminated, if its readers can take it in; what tables are worth then is
-// told anew.
+// Eliminates the table at an index, if its fanouts can take it, and recomputes the values that this
+// may change.
 fn try_at<R: Row>(
     alloc: Global,
     work: &mut WorkingNetwork<R>,
@@ -172,8 +173,8 @@ fn try_at<R: Row>(
     }
 }
 
-// Takes the next step, if there is one: of the tables that are worth least the first that its
-// readers can take in goes. One that they refuse waits no more, until a step touches it.
+// Takes the next step, if there is one: the first table of least value that its fanouts can take is
+// eliminated. One that they refuse leaves the queue until a step touches it.
 fn take_step<R: Row>(
     alloc: Global,
     work: &mut WorkingNetwork<R>,
@@ -216,10 +217,10 @@ fn take_steps<R: Row>(
     Ok(())
 }
 
-/// A network after elimination, beside the one that stays. Table after table is eliminated: always
-/// the first inner table of least value, not above the threshold, that all its readers can take in
-/// with no list of more than `MAX_ROWS` rows and no result of more than `rows` rows or `MAX_INPUTS`
-/// inputs; until there is none.
+/// A new network, after elimination; the given one stays. Eliminates the first inner table of least
+/// value, not above the threshold, that all its fanouts can take with no list of more than
+/// `MAX_ROWS` rows and no result of more than `rows` rows or `MAX_INPUTS` inputs, until there is
+/// none.
 pub fn eliminate<R: Row>(
     alloc: Global,
     network: &Network<R>,

@@ -29,7 +29,7 @@ pub fn taking_keeps()
         (with_put circuit name) }
 {}
 
-/// The least of tables is the first of least value, and no other table is.
+/// The least of some tables is the first of least value, and no other table is.
 pub fn least_is_first()
     ensures first { (value : Table → ℤ) (tables : List Table) (table : Table)
         → least value tables ≡ Some table → IsFirstLeast value tables table }

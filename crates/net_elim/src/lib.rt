@@ -9,9 +9,10 @@
 //! Both make a new network; the given one stays. Promised of `eliminate`
 //! (`specs/Eliminating.antt`): exactly the end of the chain of steps, so no inner table is left
 //! whose value is not above the threshold and that all its fanouts can take. The results for all
-//! fanouts are made before one is set. Values are kept from step to step, with an ordered set of
-//! them (`waiting`), and computed anew only where a step may have changed them: at the readers, and
-//! at the tables that drive what these read. No clause says how much work that saves.
+//! fanouts are made before one is set. Values are kept from step to step in a priority queue
+//! (`waiting`), and recomputed only where a step may have changed them: at the eliminated table, at
+//! its fanouts, and at the tables that drive inputs of any of these. No clause says how much work
+//! that saves.
 //!
 //! Promised of `collapse` (`specs/Collapse.antt`): exactly the collapsed network, which reads
 //! inputs and latches alone, or exactly the refusal with the fanout's name.

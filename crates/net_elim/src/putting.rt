@@ -1,11 +1,11 @@
-//! One table composed into all its fanouts: first all results are made, then each is set at its
+//! Composes one table into all its fanouts: first all results are made, then each is set at its
 //! index.
 //!
 //! Source: Brayton, Rudell, Sangiovanni-Vincentelli and Wang, "MIS: A Multiple-Level Logic
 //! Optimization System" (1987); the SIS report (UCB/ERL M92/41), `eliminate`. As nothing is set
 //! before all results are made, a fanout that cannot take the table leaves the network unchanged.
-//! Callers rely on `with_put`, or on `Refused` exactly if a list or a result exceeds its limit. For
-//! want of memory any network may be left.
+//! Callers rely on `with_put`, or on `Refused` only if a list or a result exceeds its limit. If
+//! memory runs out the network may be any.
 
 ghost use Rattle.std.specs.Prelude.{◌≡◌, ℕ, true, false, Some, None, List, [], ◌∷◌, ◌++◌, length, is_some, IfOk, IfErr, OnOk, ◌⊎◌};
 ghost use Rattle.std.specs.List.{AllByRecursion};
@@ -225,7 +225,7 @@ fn set_all<R: Row>(
 }
 
 /// Composes the table at an index into all its fanouts; the table itself stays. Refused if a fanout
-/// cannot take it, and then nothing changed. For want of memory the network may be any.
+/// cannot take it, and then nothing changed. If memory runs out the network may be any.
 pub(crate) fn put_at<R: Row>(
     alloc: Global,
     work: &mut WorkingNetwork<R>,

@@ -1,5 +1,5 @@
-//! Where an elimination may change values: at its own index, at its fanouts, and at the tables that
-//! drive inputs of these.
+//! Where an elimination may change values: at its own index, at those of its fanouts, and at those
+//! of the tables that drive inputs of any of these.
 //!
 //! Source: Brayton, Rudell, Sangiovanni-Vincentelli and Wang, "MIS: A Multiple-Level Logic
 //! Optimization System" (1987). Callers rely on `AreTouched`: all these indices are listed, some
@@ -16,7 +16,7 @@ use cube_cover::Row;
 use net_work::WorkingNetwork;
 use std::alloc::{AllocError, Global};
 
-// Puts the place of the table that drives a signal, if one does, behind others.
+// Appends the index of the table that drives a signal, if a table does.
 fn push_driver<R: Row>(
     work: &WorkingNetwork<R>,
     name: &Name,
@@ -34,7 +34,7 @@ fn push_driver<R: Row>(
     }
 }
 
-// Puts the places of the tables that drive some signals behind others.
+// Appends the indices of the tables that drive some signals.
 fn push_drivers<R: Row>(
     work: &WorkingNetwork<R>,
     names: &[Name],
@@ -49,7 +49,7 @@ fn push_drivers<R: Row>(
     Ok(())
 }
 
-// Puts the place of a table, and those of the tables that drive its inputs, behind others.
+// Appends an index, and the indices of the tables that drive inputs of its table.
 fn push_reader<R: Row>(
     work: &WorkingNetwork<R>,
     place: usize,
@@ -68,8 +68,8 @@ fn push_reader<R: Row>(
     }
 }
 
-/// The places where an elimination of the table at a place may change what tables are worth; some
-/// may stand there more than once.
+/// The indices where an elimination of the table at an index may change values; some may be listed
+/// more than once.
 pub(crate) fn touched_by<R: Row>(
     alloc: Global,
     work: &WorkingNetwork<R>,

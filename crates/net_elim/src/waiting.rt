@@ -1,4 +1,4 @@
-//! The tables that wait to be eliminated, by their places.
+//! The priority queue of tables that may be eliminated, by index.
 
 ghost use Rattle.std.specs.Prelude.{OnOk};
 ghost use Rattle.net_elim.specs.Waiting.{IsNext, IsPutAt};
@@ -28,17 +28,17 @@ impl Ranking<usize, i128, i128> for LeastFirst {
     ghost ranks_exact = { exact_signed };
 }
 
-/// What tables are worth, by their places.
+/// The elimination values of tables, by index.
 pub(crate) type Waiting = Queue<usize, i128, i128, LeastFirst>;
 
-/// The place of the least value, of equal ones the first; none, where there is no value.
+/// The index of least value, the first of several; none if there is no value.
 pub(crate) fn next(waiting: &Waiting) -> Option<usize>
     ensures { IsNext waiting.now result }
 {
     waiting.first().copied()
 }
 
-/// Puts a value, or none, at a place.
+/// Sets the value for an index, or removes it if it is none.
 pub(crate) fn put(
     alloc: Global,
     waiting: &mut Waiting,

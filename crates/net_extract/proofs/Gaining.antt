@@ -1,4 +1,4 @@
--- Gains that are kept: as tables come and change, and the best candidate by them.
+-- Gains that are kept while tables are added and change, and the best candidate by them.
 use Rattle.std.proofs.Common.{◌≡◌, ℕ, ◌+◌, ◌-◌, ◌<◌, ◌≤◌, zero, suc, Bool, true, false, Result, Ok, Err, Option, Some, None, is_some, List, [], ◌∷◌, ◌++◌, map, length, take, set, IfOk, IfSome, MatchOption, refl, sym, ap, ◌∙◌, subst, inl, inr, arith}
 use Rattle.std.specs.List.{sum_by, list_all, AllByRecursion}
 use Rattle.std.proofs.lemmas.Bool.{and_parts, cases_lt}
@@ -33,7 +33,7 @@ use Rattle.net_extract.specs.Known.{IsCounted, AreCounted}
 use Rattle.net_savings.specs.Saving.{literals_in, LeavesNarrow}
 use Rattle.net_savings.proofs.Slots.{all_set}
 
--- ---- tables come and change
+-- ---- tables are added and change
 
 abbrev pub Differs : Table → Type 0
 Differs table = rows_differ table.rows ≡ true
@@ -66,7 +66,7 @@ module _ {R : Type 0} (table : CoverTable R) (kept new : Kept) (counted : Bool) 
       → (slots : List (Option Table)) (output : List ℕ) → AreCounted slots found → IsCounted (set slots place (Some (named output table))) new
   known_set place found taken is slots output h = counted_set slots kept new place (named output table) (sym (may output) ∙ yes) (taken yes output) (subst (AreCounted slots) is h)
 
--- a place whose table is counted
+-- an index whose table is counted
 pub counted_slot : {R E : Type 0} (result : Result Bool E) (entry : Entry R) (slot : Option Table) (kept new : Kept) → Some (written_of entry) ≡ slot
     → IfOk result (λ counted. (output : List ℕ) → counted ≡ is_countable kept.names (named output entry.table))
     → IfOk result (λ counted. counted ≡ true → (output : List ℕ) → new ≡ with_last kept (cubes_of (named output entry.table)))
@@ -75,7 +75,7 @@ counted_slot (Ok counted) entry slot kept new there may taken = λ yes slots h.
     subst (λ (s : Option Table). IsCounted (slots ++ s ∷ []) new) there (counted_push slots kept new (written_of entry) (sym (may entry.output) ∙ yes) (taken yes entry.output) h)
 counted_slot (Err fault) entry slot kept new there may taken = tt
 
--- one place more is counted
+-- one more index is counted
 pub take_slot : (slots : List (Option Table)) (at : ℕ) → at < length slots → take at slots ++ table_at slots at ∷ [] ≡ take (at + 1) slots
 take_slot slots at below = more slots at below ∙ ap (λ (n : ℕ). take n slots) (let one : suc at ≡ at + 1 = omega arith in one)
   where
@@ -84,7 +84,7 @@ take_slot slots at below = more slots at below ∙ ap (λ (n : ℕ). take n slot
     more (slot ∷ slots) zero below = refl
     more (slot ∷ slots) (suc at) below = ap (λ (rest : List (Option Table)). slot ∷ rest) (more slots at (omega (arith, below)))
 
--- a place at which a table stands is one of the places
+-- the index of a table is within the network
 stands_within : (slots : List (Option Table)) (at : ℕ) → is_some (table_at slots at) ≡ true → at < length slots
 stands_within [] at some = absurd (let no : false ≡ true = some in cc)
 stands_within (slot ∷ slots) zero some = omega arith
@@ -133,7 +133,7 @@ gained cover (None ∷ slots) = omega (arith, sum_by-cons (gains cover) [] (map 
 gained cover (Some table ∷ slots) =
     omega (arith, sum_by-cons (gains cover) (cubes_of table) (map cubes_in slots), gained cover slots, sum_by-cons (λ (t : Table). gains cover (cubes_of t)) table (standing slots))
 
--- sums of what is the same
+-- sums of equal summands
 same_sum : {X : Type 0} (f g : X → ℕ) (xs : List X) → ((x : X) → Has x xs → f x ≡ g x) → sum_by f xs ≡ sum_by g xs
 same_sum f g [] same = refl
 same_sum f g (x ∷ xs) same =
@@ -166,7 +166,7 @@ module _ (now : Placed) (name : List ℕ) (kept : Kept) (sound : IsSound (circui
   exact cover may =
       ap (λ (n : ℕ). literals_after (circuit_of now) name cover + n) (sym (lost_is cover may.candidate)) ∙ lost_exact Fx (circuit_of now) name sound new cover may
 
-  -- a candidate that may be extracted passes
+  -- a candidate that may be extracted is admissible
   passes : (cover : NamedCover) → IsOpen Fx (circuit_of now) name cover → LeavesNarrow (standing now.slots) name cover
   passes cover may = record { added = may.added; changed = may.changed }
 

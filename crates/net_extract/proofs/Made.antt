@@ -1,4 +1,4 @@
--- Tables of the code that are divided stand at their places.
+-- Tables of the program that are divided are the tables at their indices.
 use Rattle.std.proofs.Common.{◌≡◌, ℕ, true, Option, Some, List, sym, ap, ◌∙◌, subst}
 use Rattle.std.specs.List.{AllByRecursion}
 use Rattle.circuit_model.specs.Names.{all_different}
@@ -34,7 +34,7 @@ module _ {R : Type 0} (name : List ℕ) (cover : NamedCover) where
         (sym (set_is is.table is.there ∙ ap (λ (t : Table). with_slot now place (Some t)) is.made_of.is))
         (all_set IsBounded now.slots place (divided name true cover is.table) is.made_of.bounded all)
 
--- a place whose table stays as it is
+-- an index whose table stays as it is
 pub none_set : (name : List ℕ) (cover : NamedCover) (now : Placed) (place : ℕ) → divided_slot name cover (table_at now.slots place) ≡ table_at now.slots place
     → now ≡ with_slot now place (divided_slot name cover (table_at now.slots place))
 none_set name cover now place stays = ap (λ (slots : List (Option Table)). record now { slots = slots }) (sym (set_same now.slots place (divided_slot name cover (table_at now.slots place)) stays))

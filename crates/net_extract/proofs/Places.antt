@@ -1,4 +1,5 @@
--- Tables divided at the places at which they may read all that a cover reads: the same as all tables divided.
+-- The tables at those indices at which they may read all that a cover reads are divided: the same
+-- as all tables divided.
 use Rattle.std.proofs.Common.{◌≡◌, ◌⊎◌, ℕ, ◌+◌, ◌<◌, ◌≤◌, ◌==◌, zero, suc, Bool, true, false, Option, Some, None, List, [], ◌∷◌, ◌++◌, map, length, drop, set, get_or, refl, sym, ap, ap₂, ◌∙◌, subst, inl, inr, arith}
 use Rattle.std.proofs.lemmas.Bool.{false≢true, eq-eqb, or_left, or_right}
 use Rattle.std.proofs.lemmas.List.{length-set, length-map, length-append, drop_more}
@@ -13,7 +14,7 @@ use Rattle.net_extract.specs.Dividing.{divided_slot, turned_at, with_divided}
 use Rattle.net_savings.proofs.Losing.{AreAll, stays}
 use Rattle.net_savings.proofs.Summing.{in_has}
 
--- a place among places
+-- an index among indices
 pub has_in : (places : List ℕ) (at : ℕ) → Has at places → is_in places at ≡ true
 has_in [] at m = absurd m
 has_in (first ∷ places) at m = elim m as (λ _. is_in (first ∷ places) at ≡ true) [
@@ -21,7 +22,7 @@ has_in (first ∷ places) at m = elim m as (λ _. is_in (first ∷ places) at �
   | inr k ↦ or_right (first == at) (is_in places at) (has_in places at k)
 ]
 
--- slots with the same tables at the same places
+-- slots with the same tables at the same indices
 pub same_slots : (slots others : List (Option Table)) → length slots ≡ length others → ((at : ℕ) → table_at slots at ≡ table_at others at) → slots ≡ others
 same_slots [] [] long same = refl
 same_slots [] (other ∷ others) long same = absurd (omega (arith, long))
@@ -29,26 +30,26 @@ same_slots (slot ∷ slots) [] long same = absurd (omega (arith, long))
 same_slots (slot ∷ slots) (other ∷ others) long same =
     ap₂ (λ (first : Option Table) (rest : List (Option Table)). first ∷ rest) (same 0) (same_slots slots others (omega (arith, long)) (λ at. same (suc at)))
 
--- what is written at a place stands there
+-- the slot at an index after it is written
 set_here : (slots : List (Option Table)) (at : ℕ) (slot : Option Table) → at < length slots → table_at (set slots at slot) at ≡ slot
 set_here [] at slot below = absurd (omega (arith, below))
 set_here (first ∷ slots) zero slot below = refl
 set_here (first ∷ slots) (suc at) slot below = set_here slots at slot (omega (arith, below))
 
 module _ (turn : Option Table → Option Table) where
-  -- as many slots as before
+  -- the number of slots stays
   turned_long : (places : List ℕ) (slots : List (Option Table)) → length (turned_at turn places slots) ≡ length slots
   turned_long [] slots = refl
   turned_long (place ∷ places) slots = turned_long places (set slots place (turn (table_at slots place))) ∙ length-set slots place (turn (table_at slots place))
 
-  -- at another place nothing changes
+  -- at another index nothing changes
   turned_away : (places : List ℕ) (slots : List (Option Table)) (at : ℕ) → (Has at places → ⊥) → table_at (turned_at turn places slots) at ≡ table_at slots at
   turned_away [] slots at away = refl
   turned_away (place ∷ places) slots at away =
       turned_away places (set slots place (turn (table_at slots place))) at (λ m. away (inr m))
       ∙ ap joined (get_set_other slots place at (turn (table_at slots place)) (λ e. away (inl e)))
 
-  -- at a place that stands once the slot is changed
+  -- at an index that occurs once the slot is changed
   turned_here : (places : List ℕ) (slots : List (Option Table)) (at : ℕ) → AreOnce places → Has at places → at < length slots
       → table_at (turned_at turn places slots) at ≡ turn (table_at slots at)
   turned_here [] slots at once m below = absurd m
@@ -60,7 +61,7 @@ module _ (turn : Option Table → Option Table) where
         ∙ ap turn (ap joined (get_set_other slots place at (turn (table_at slots place)) (λ e. once.0 (subst (λ (p : ℕ). Has p places) e k))))
   ]
 
-  -- a slot before the last one, or the last one and what is behind
+  -- a slot before the last one, or the last one and what comes after it
   pub last_split : (slots : List (Option Table)) (last : Option Table) (at : ℕ)
       → ((at < length slots) × (table_at (slots ++ last ∷ []) at ≡ table_at slots at) × (table_at (map turn slots ++ last ∷ []) at ≡ turn (table_at slots at)))
       ⊎ ((length slots ≤ at) × (table_at (map turn slots ++ last ∷ []) at ≡ table_at (slots ++ last ∷ []) at))
@@ -73,7 +74,7 @@ module _ (turn : Option Table → Option Table) where
 
 -- all tables divided but the last
 module _ (name : List ℕ) (cover : NamedCover) where
-  -- one place more
+  -- one more index
   pub divided_more : (places : List ℕ) (i : ℕ) (now new end : Placed) → i < length places → with_divided name cover (drop i places) now ≡ end
       → new ≡ with_slot now (get_or places i 0) (divided_slot name cover (table_at now.slots (get_or places i 0))) → with_divided name cover (drop (i + 1) places) new ≡ end
   divided_more places i now new end below before is =

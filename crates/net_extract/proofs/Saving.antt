@@ -1,4 +1,4 @@
--- Savings that are kept, as tables come and change.
+-- Savings that are kept while tables are added and change.
 use Rattle.std.proofs.Common.{◌≡◌, true, Result, Ok, Err, Option, Some, None, is_some, List, ℕ, IfOk, refl, sym, subst}
 use Rattle.std.proofs.lemmas.Bool.{false≢true}
 use Rattle.circuit_model.specs.declared.circuit.Table.{Table}

@@ -1,4 +1,4 @@
--- A cover is extracted: what the network is then; and chains of such steps.
+-- A cover is extracted: the network after that; and chains of such steps.
 use Rattle.std.proofs.Common.{◌≡◌, ℕ, ◌+◌, ◌<◌, ◌^◌, true, Err, Option, Some, List, [], ◌∷◌, ◌++◌, map, length, sym, ap, ◌∙◌, subst, arith}
 use Rattle.std.specs.List.{AllByRecursion}
 use Rattle.std.specs.List.Sorted.{IsStrictlyIncreasing}
@@ -39,7 +39,7 @@ use Rattle.sis_base.specs.declared.limits.TheConstants.{MAX_NODES}
 -- ---- a cover extracted
 
 module _ (name : List ℕ) (cover : NamedCover) where
-  -- the circuit once the table of the cover is added, and the tables before it are divided
+  -- the circuit after the table of the cover is added, and the tables before it are divided
   pub divided_circuit : (places : List ℕ) (before between now : Placed) → AreAll cover before.slots places → ((at : ℕ) → is_in places at ≡ true → at < length before.slots)
       → between ≡ with_last before (cover_table name cover) → now ≡ with_divided name cover places between → circuit_of now ≡ extracted (circuit_of before) name cover
   divided_circuit places before between now are within added is =
@@ -84,7 +84,7 @@ put_stopped rule now name cover (KernelLimit many) next h = absurd h
 put_stopped rule now name cover NodeLimit next h = record { name = name; cover = cover; next = next; over = h }
 put_stopped rule now name cover Memory next h = tt
 
--- what is not listed stops extraction
+-- what cannot be listed stops extraction
 pub unlisted_stopped : (rule : Rule) (circuit : Circuit) (savings : SavingsFault) (fault : ExtractFault) → fault ≡ fault_of savings → IsUnlisted rule circuit savings → IsStopped rule circuit fault
 unlisted_stopped rule circuit savings fault e unlisted = subst (IsStopped rule circuit) (sym e) (cases savings unlisted)
   where
@@ -97,7 +97,7 @@ unlisted_stopped rule circuit savings fault e unlisted = subst (IsStopped rule c
 pub along_begin : (rule : Rule) (now : Placed) → IsSound (circuit_of now) → IsAlong rule now now
 along_begin rule now sound = record { reached = reached_itself (IsStep rule) (circuit_of now); sound = sound; bounds = λ bounds. bounds }
 
--- a step leaves few tables and latches
+-- after a step there are fewer than 2^29 tables and latches
 few_nodes : (circuit new : Circuit) (name : List ℕ) (cover : NamedCover) → new ≡ extracted circuit name cover → node_count circuit < MAX_NODES → length new.tables + length new.latches < 2 ^ 29
 few_nodes circuit new name cover is room =
     let tables : length new.tables ≡ length (map (divided name true cover) circuit.tables ++ cover_table name cover ∷ []) = ap (λ (c : Circuit). length c.tables) is in

@@ -15,27 +15,27 @@ use Rattle.net_work.specs.Placed.{Placed, circuit_of, table_at, with_last}
 use Rattle.alg_tables.specs.Dividing.{divided, cover_table}
 use Rattle.sis_base.specs.declared.limits.TheConstants.{MAX_NODES}
 
--- a slot, its table divided
+-- a slot after its table is divided
 abbrev pub divided_slot : List ℕ → NamedCover → Option Table → Option Table
 divided_slot name cover slot = option_map (divided name true cover) slot
 
--- slots at some indices changed, one after the other
+-- slots after those at some indices are changed, one after the other
 abbrev pub turned_at : (Option Table → Option Table) → List ℕ → List (Option Table) → List (Option Table)
 turned_at turn [] slots = slots
 turned_at turn (place ∷ places) slots = turned_at turn places (slice_set slots place (turn (table_at slots place)))
 
--- the tables at some indices divided
+-- the network after the tables at some indices are divided
 abbrev pub with_divided : List ℕ → NamedCover → List ℕ → Placed → Placed
 with_divided name cover places placed = record placed { slots = turned_at (divided_slot name cover) places placed.slots }
 
--- what was made is a table, divided
+-- the table that was made is a given one, divided
 pub record IsMade {R : Type 0} (name : List ℕ) (cover : NamedCover) (table : Table) (made : CoverTable R) : Type 0 where
   pub over : IsOverInputs made
   pub once : all_different made.inputs ≡ true
   pub is : named table.output made ≡ divided name true cover table
   pub bounded : IsBounded (divided name true cover table)
 
--- what was made is the table at an index, divided
+-- the table that was made is that at an index, divided
 pub record IsMadeAt {R : Type 0} (name : List ℕ) (cover : NamedCover) (slots : List (Option Table)) (place : ℕ) (made : CoverTable R) : Type 0 where
   pub table : Table
   pub there : table_at slots place ≡ Some table

@@ -1,4 +1,4 @@
--- Steps of extraction on a working network, and where they stop. No public clause needs these
+-- Steps of extraction on a working network, and why they stop. No public clause needs these
 -- definitions but `fault_of`. Source: Brayton, Rudell, Sangiovanni-Vincentelli and Wang, "MIS: A
 -- Multiple-Level Logic Optimization System" (1987): a command applies an operation to one node
 -- after the other.
@@ -20,18 +20,18 @@ use Rattle.net_extract.specs.declared.fault.ExtractFault.{ExtractFault}
 use Rattle.net_extract.specs.declared.fault.ExtractFault.TheVariants.{KernelLimit, NodeLimit, Memory}
 use Rattle.sis_base.specs.declared.limits.TheConstants.{MAX_NODES}
 
--- why there is no step; want of memory is free
+-- why there is no step; running out of memory needs no cause
 abbrev pub IsStopped : Rule → Circuit → ExtractFault → Type 0
 IsStopped rule circuit (KernelLimit name) = IsFirstMany rule circuit.tables name
 IsStopped rule circuit NodeLimit = IsOver rule circuit
 IsStopped rule circuit Memory = Unit {0}
 
--- why nothing is extracted where the candidates are not listed
+-- why nothing is extracted if the candidates are not listed
 abbrev pub fault_of : SavingsFault → ExtractFault
 fault_of (ManyKernels name) = KernelLimit name
 fault_of SavingsMemory = Memory
 
--- why a table is not added; want of memory needs no cause
+-- why a table is not added; running out of memory needs no cause
 abbrev pub IsNotAdded : Circuit → ExtractFault → Type 0
 IsNotAdded circuit (KernelLimit name) = ⊥
 IsNotAdded circuit NodeLimit = MAX_NODES ≤ node_count circuit
@@ -57,6 +57,6 @@ pub record IsAlong (rule : Rule) (before now : Placed) : Type 0 where
   pub sound : IsSound (circuit_of now)
   pub bounds : HasBounds (circuit_of before) → HasBounds (circuit_of now)
 
--- where steps end that come to no circuit that is done
+-- why steps end before a circuit is done
 abbrev pub IsEnd : Rule → Circuit → ExtractFault → Type 0
 IsEnd rule old fault = HasExtracted rule old (Err fault)

@@ -1,4 +1,4 @@
--- What is kept of a network at work: the gains that its tables give, if they are counted, or what
+-- What is kept with a working network: the gains that its tables give, if they are counted, or what
 -- its candidates save. No public clause needs these definitions.
 -- Source: the project's own representation.
 use Rattle.std.specs.Prelude.{◌≡◌, true, Option, Some, None, List, map}
@@ -17,12 +17,12 @@ pub record IsCounted (slots : List (Option Table)) (kept : Kept) : Type 0 where
   pub tables : kept.tables ≡ map cubes_in slots
   pub differ : AllByRecursion (λ (table : Table). rows_differ table.rows ≡ true) (standing slots)
 
--- gains that are kept are those of the tables
+-- the gains kept, if any are, are those of the tables
 abbrev pub AreCounted : List (Option Table) → Option Kept → Type 0
 AreCounted slots None = Unit {0}
 AreCounted slots (Some kept) = IsCounted slots kept
 
--- savings that are kept are those of the tables
+-- the savings kept, if any are, are those of the tables
 abbrev pub AreSaved : Rule → Placed → Option CandidateQueue → Type 0
 AreSaved rule placed None = Unit {0}
 AreSaved rule placed (Some kept) = AreSavings rule placed kept

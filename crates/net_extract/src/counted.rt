@@ -1,7 +1,8 @@
 //! The best candidate of `fx`, by the gains that are kept.
 //!
-//! The gains say what a divisor saves; the trial is that no table then has too many inputs. Callers
-//! rely on the best candidate exactly, and on none exactly if extraction is done.
+//! The gains say what a divisor saves; a cover is admissible if no table has too many inputs after
+//! it is extracted. Callers rely on exactly the best candidate, and on none exactly if extraction
+//! is done.
 
 ghost use Rattle.std.specs.Prelude.{◌≡◌, IfOk, MatchOption};
 ghost use Rattle.circuit_model.specs.Soundness.{IsSound};
@@ -20,7 +21,7 @@ use net_savings::fits_input_limit;
 use net_work::WorkingNetwork;
 use std::alloc::{AllocError, Global};
 
-// The trial of `fx`: whether a cover, extracted from a network under a name, leaves no table with
+// The test of `fx`: whether a cover, extracted from a network under a name, leaves no table with
 // too many inputs. What it saves is known from the gains.
 #[derive(Drop)]
 struct NarrowTrial<'a, R: Row> {

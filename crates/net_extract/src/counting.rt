@@ -1,8 +1,9 @@
-//! The gains of all tables of a network, counted from nothing.
+//! The gains of all tables of a network, counted from the beginning.
 //!
-//! Names of all tables and inputs get numbers, and names in brackets ahead of time, since new
-//! tables take the first free ones. There are no gains where a table has a row twice, an index is
-//! empty, or a name has no number; no clause says when.
+//! Names of all tables and inputs get numbers, and so do names in brackets ahead of time, since new
+//! tables take the first free ones. There are no gains if a table has a row twice, an index is
+//! empty, or a name has no number; no clause says when. Callers rely on gains, if there are any, to
+//! be those of all tables (`AreCounted`).
 
 ghost use Rattle.std.specs.Prelude.{◌≡◌, true, Option, List, [], ◌∷◌, ◌++◌, IfOk};
 ghost use Rattle.circuit_model.specs.declared.circuit.Table.{Table};
@@ -87,7 +88,8 @@ fn count_at<R: Row>(
 }
 
 /// The gains of all tables; none if an index is empty, a table has a row twice, or an input has no
-/// number, which no clause says. An error also for want of numbers for the totals.
+/// number, which no clause says. Also an error if a total or the number of names is too large for a
+/// machine word.
 pub(crate) fn count<R: Row>(
     alloc: Global,
     work: &WorkingNetwork<R>,

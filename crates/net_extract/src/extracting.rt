@@ -39,11 +39,11 @@ fn take_steps<R: Row>(
 }
 
 /// A new network, after extraction; the given one stays. Candidates of a rule are extracted as long
-/// as one saves literals: always the one that saves most, of those that save as much the first. New
-/// tables are last, under the least free names. `KernelLimit` has the name of the first table with
-/// more than `MAX_KERNELS` kernels, if kernels are asked for. `NodeLimit` exactly if a candidate
-/// saves literals and with its table there would be more than `MAX_NODES` tables and latches, those
-/// of the don't-care part included.
+/// as one saves literals: always the one that saves most, the first of several. New tables are
+/// last, under the least free names. `KernelLimit` has the name of the first table with more than
+/// `MAX_KERNELS` kernels, if kernels are asked for. `NodeLimit` only if a candidate saves literals
+/// and with its table there would be more than `MAX_NODES` tables and latches, those of the
+/// don't-care part included.
 pub fn extract<R: Row>(
     alloc: Global,
     network: &Network<R>,

@@ -1,8 +1,8 @@
-//! The best candidate of a network: by gains for `fx` where they are counted, else by savings.
+//! The best candidate of a network: by gains for `fx` if they are counted, else by savings.
 //!
-//! Savings are computed from the first search that needs them on. Callers rely on the best
-//! candidate exactly, whichever way it is found, and on gains and savings that are true of the
-//! network afterwards.
+//! Savings are computed from the first search that needs them. Callers rely on exactly the best
+//! candidate, whichever way it is found, and on gains and savings that are those of the network
+//! afterwards.
 
 ghost use Rattle.std.specs.Prelude.{◌≡◌, IfOk, IfErr, OnOk, MatchOption};
 ghost use Rattle.circuit_model.specs.Soundness.{IsSound};

@@ -1,10 +1,9 @@
-//! Gains and savings of a network at work, updated as tables are added and changed.
+//! Gains and savings of a working network, updated as tables are added and changed.
 //!
 //! Source: the project's own. Invariant (`AreCounted`, `AreSaved`): gains that are kept are those
 //! of the current tables, and so are savings. Tables are added and set here together with what is
-//! known of them, so that the two do not diverge. Gains are dropped where a table cannot be
-//! counted; savings then take their place. After an error the network and what is known of it may
-//! be any.
+//! known of them, so that the two do not diverge. Gains are dropped if a table cannot be counted;
+//! savings are used instead. After an error the network and what is known of it may be any.
 
 ghost use Rattle.std.specs.Prelude.{◌≡◌, ◌<◌, ℕ, true, Option, Some, None, List, [], ◌∷◌, ◌++◌, length, is_some, slice_set, IfOk, OnOk, IfSome};
 ghost use Rattle.circuit_model.specs.Names.{all_different};

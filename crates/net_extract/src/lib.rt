@@ -7,7 +7,7 @@
 //! has a row twice and each input has a number; else, and for `gkx` and `gcx`, what candidates save
 //! is kept (crate net_savings). Promised here (`specs/Extract.antt`): the end of the chain of
 //! steps; `KernelLimit` with the first table that has more kernels than are listed; or `NodeLimit`
-//! where a step has no room.
+//! only if a step has no room.
 #![tactic(auto)]
 
 mod counted;

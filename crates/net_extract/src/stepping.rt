@@ -36,7 +36,7 @@ use net_savings::places_for;
 use net_work::WorkingNetwork;
 use std::alloc::{AllocError, Global};
 
-// The table of a cover is added.
+// Adds the table of a cover.
 fn add_table<R: Row>(
     alloc: Global,
     work: &mut WorkingNetwork<R>,

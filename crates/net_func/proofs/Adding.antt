@@ -1,4 +1,4 @@
--- Numbers that come: one at a name, that of a table, and some after some others.
+-- Numbers that are added: one for a name, that of a table, and some after others.
 use Rattle.std.proofs.Common.{◌≡◌, ℕ, zero, suc, ◌+◌, ◌<◌, Bool, true, false, ◌||◌, if◌then◌else◌, Option, Some, None, is_some, List, [], ◌∷◌, length, take, drop, get_or, map, bytes_eq, refl, sym, ap, ap₂, ◌∙◌, subst, inl, inr, ◌⊎◌}
 use Rattle.std.specs.List.{AllByRecursion, list_all}
 use Rattle.std.proofs.Math.Bool.{or_assoc, or-false, or-true}
@@ -55,14 +55,14 @@ shaped_rows table list number shaped e =
     number))
     (wide_rows table.rows (length table.inputs) shaped.0)
 
--- what a fault blames has also each weaker cause
+-- a fault with a cause has each weaker cause, too
 pub blames_weaker : (P Q : List ℕ → Type 0) (fault : NetFuncFault) → ((name : List ℕ) → P name → Q
     name)
     → Blames fault P → Blames fault Q
 blames_weaker P Q (TooBig name) weaker cause = weaker name cause
 blames_weaker P Q Memory weaker cause = tt
 
--- numbers that more names have: a name without one had none before
+-- if more names have numbers than before: a name without one had none before
 pub none_from : (found : Option Func) → is_some found ≡ false → found ≡ None
 none_from None e = refl
 none_from (Some f) e = absurd (false≢true (sym e))
@@ -140,7 +140,7 @@ module _ {S : Type 0} (holds : S → ℕ → Type 0) (tree : S → ℕ → Tree)
       (bits_right state number value names list right
       (tails (Some f) (number name) (map Some list) (map number names) e) point)
 
-  -- one number comes
+  -- one number is added
   pub adds_one : (before after : S) (old new : List ℕ → Option Func) (name : List ℕ) (made : Func)
       (test : List ℕ → Bool) (Fits : (List ℕ → BooleanFunction) → Type 0)
       → Stays holds tree limit before after → NumbersStand holds before old
@@ -191,7 +191,7 @@ module _ {S : Type 0} (holds : S → ℕ → Type 0) (tree : S → ℕ → Tree)
       means value was fits other f false apart at =
           Means-kept holds tree limit before after f.0 (value other) stays (was other f at)
 
-  -- none comes where names have numbers
+  -- none is added if names have numbers
   pub adds_none : (state : S) (number : List ℕ → Option Func) (test : List ℕ → Bool)
       (Fits : (List ℕ → BooleanFunction) → Type 0) → NumbersStand holds state number
       → ((name : List ℕ) → test name ≡ true → has_number number name ≡ true)
@@ -207,7 +207,7 @@ module _ {S : Type 0} (holds : S → ℕ → Type 0) (tree : S → ℕ → Tree)
       same false true h = h refl
       same false false h = refl
 
-  -- some come after some others
+  -- some are added after others
   pub adds_chain : (first second third : S) (old now new : List ℕ → Option Func) (one two both :
       List ℕ → Bool)
       (One Two Fits : (List ℕ → BooleanFunction) → Type 0)
@@ -226,7 +226,7 @@ module _ {S : Type 0} (holds : S → ℕ → Type 0) (tree : S → ℕ → Tree)
         fits).1;
   }
 
-  -- the number of a table comes
+  -- the number of a table is added
   pub table_added : (before after : S) (old new : List ℕ → Option Func) (table : Table) (list : List
       Func)
       (made : Func)
@@ -279,7 +279,7 @@ module _ {S : Type 0} (holds : S → ℕ → Type 0) (tree : S → ℕ → Tree)
         (solves name table at none));
   }
 
-  -- names whose numbers have come so far, and the object that gave them
+  -- names whose numbers were added so far, and the object that gave them
   pub record IsAdding (before now : S) (old new : List ℕ → Option Func) (test : List ℕ → Bool)
       (Fits : (List ℕ → BooleanFunction) → Type 0) : Type 0 where
     pub stays : Stays holds tree limit before now

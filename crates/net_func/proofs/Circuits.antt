@@ -1,6 +1,5 @@
--- What a sound circuit gives for its functions: its leaves are apart from its tables, its functions
--- solve the equations of its tables, and so do those of its don't-care part and those with one
--- signal fixed.
+-- The functions of a sound circuit: its leaves are apart from its tables, its functions solve the
+-- equations of its tables, and so do those of its don't-care part and those with one signal fixed.
 use Rattle.std.proofs.Common.{◌≡◌, ℕ, Bool, true, false, ◌||◌, if◌then◌else◌, Option, Some, None, is_some, unwrap_or, List, ◌++◌, bytes_eq, refl, sym, ap, ◌∙◌, subst, inl, inr}
 use Rattle.std.proofs.lemmas.Bool.{false≢true, or_left, or_right}
 use Rattle.std.proofs.lemmas.Option.{none-some}
@@ -56,7 +55,7 @@ driven_no_leaf circuit sound name driven =
       | inr latch ↦ (latches_apart circuit sound).between name latch driven
     ])
 
--- the tables are settled, and read what is driven or a leaf
+-- the tables are settled, and read only leaves and signals that are driven
 pub own_settled : (circuit : Circuit) → IsSound circuit → AreSettled circuit.tables
 own_settled circuit sound = record {
   once = (latches_apart circuit sound).back;

@@ -11,7 +11,7 @@ use Rattle.circuit_laws.proofs.Places.{placed_driver, placed_name}
 use Rattle.circuit_order.specs.Places.{IsIndex}
 use Rattle.circuit_order.proofs.Indexing.{within}
 
--- what drives a signal stands at a place
+-- what drives a signal has an index
 pub driver_place : (tables : List Table) (name : List ℕ) (table : Table) → driver tables name ≡ Some
     table
     → (i : ℕ) × (slice_get tables i ≡ Some table)
@@ -26,7 +26,7 @@ driver_place (first ∷ tables) name table at =
     cases true e more = (zero, e)
     cases false e more = let (i, there) = more e in (suc i, there)
 
--- each output of tables has a place
+-- each output of tables has an index
 pub output_placed : (tables : List Table) (place : List ℕ → Option ℕ) (name : List ℕ) → IsIndex
     tables place
     → has (outputs_of tables) name ≡ true → (i : ℕ) × (place name ≡ Some i)
@@ -41,7 +41,7 @@ pub output_found : (tables : List Table) (place : List ℕ → Option ℕ) (name
 output_found tables place name index driven none =
     let (i, at) = output_placed tables place name index driven in none-some i (none ∙ at)
 
--- a place that a name has is that of the table that drives it
+-- the index of a name is that of the table that drives it
 get_or-slice_get : {X : Type 0} (xs : List X) (i : ℕ) (x d : X) → slice_get xs i ≡ Some x → get_or
     xs i d ≡ x
 get_or-slice_get [] i x d at = absurd (none-some x at)
@@ -64,7 +64,7 @@ driver_placed tables place name i found once index at is =
     ap (driver tables) (sym output) ∙ placed_driver tables i table once there
     ∙ ap (λ (t : Table). Some t) same
 
--- a name has a place just where a table drives it
+-- a name has an index exactly if a table drives it
 pub placed_driven : (tables : List Table) (place : List ℕ → Option ℕ) (name : List ℕ) → IsIndex
     tables place
     → is_some (place name) ≡ has (outputs_of tables) name

@@ -140,7 +140,7 @@ module _ {S : Type 0} (holds : S → ℕ → Type 0) (tree : S → ℕ → Tree)
           (FitsOver ls tables old) blamed) leaves_are cause)).big value some.right fits,
     )
 
-  -- where a signal is fixed those that it does not reach keep their numbers, and it gets its own
+  -- if a signal is fixed those that it does not reach keep their numbers, and it gets its own
   module _ (circuit : Circuit) (sound : IsSound circuit) (name : List ℕ) (bit : Bool) where
     known_there : (number some : List ℕ → Option Func)
         → ((signal : List ℕ) (f : Func) → some signal ≡ Some f → number signal ≡ Some f)

@@ -24,7 +24,7 @@ use Rattle.net_func.proofs.Lists.{has_more, among_at}
 use Rattle.net_func.proofs.Finding.{placed_driven}
 use Rattle.net_func.proofs.Adding.{none_before, adds_one, adds_none, adds_chain}
 
--- the bit at a place, and none where the name is no leaf
+-- the bit at an index, and none if the name is no leaf
 pub bits_at : (place k n : ℕ) (names : List (List ℕ)) (name : List ℕ) (point : ℕ → Bool)
     → all_different names ≡ true → k < length names → name ≡ get_or names k name → n ≡ place + k
     → leaf_bits place names point name ≡ Some (point n)
@@ -70,7 +70,7 @@ bits_some place (first ∷ names) name point =
     cases true rest = refl
     cases false rest = rest
 
--- they are those that a valuation gives the inputs and the latches
+-- these are the bits that a valuation gives the inputs and the latches
 bits_written : (place : ℕ) (names : List (List ℕ)) (point : ℕ → Bool) (name : List ℕ)
     → bit_of names (bits_from place (length names) point) name ≡ leaf_bits place names point name
 unfolding bit_of bits_from leaf_bits
@@ -111,12 +111,12 @@ leaves_same circuit point name =
     ∙ sym (bits_append 0 (length circuit.inputs) circuit.inputs (latch_outputs circuit) point name
     (omega arith))
 
--- no place, and no numbers
+-- no index, and no numbers
 pub no_place : (found : Option ℕ) → is_some found ≡ false → found ≡ None
 no_place None e = refl
 no_place (Some i) e = absurd (false≢true (sym e))
 
--- a leaf that no table drives comes, and one that a table drives does not
+-- a leaf that no table drives is added, and one that a table drives is not
 module _ {S : Type 0} (holds : S → ℕ → Type 0) (tree : S → ℕ → Tree) (limit : S → ℕ) where
   pub leaf_driven : (state : S) (number : List ℕ → Option Func) (driven : List ℕ → Option ℕ) (name :
       List ℕ)
@@ -133,7 +133,7 @@ module _ {S : Type 0} (holds : S → ℕ → Type 0) (tree : S → ℕ → Tree)
       absurd (false≢true (sym (not-true (is_some (driven other)) parts.1)
       ∙ ap (λ (n : List ℕ). is_some (driven n)) (same_name other name parts.0) ∙ there)))
 
-  -- nor does one that has a number
+  -- nor is one that has a number
   pub leaf_there : (state : S) (number : List ℕ → Option Func) (driven : List ℕ → Option ℕ) (name :
       List ℕ)
       (Fits : (List ℕ → BooleanFunction) → Type 0) → NumbersStand holds state number

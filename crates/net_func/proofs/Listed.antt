@@ -119,7 +119,7 @@ module _ {S : Type 0} (holds : S → ℕ → Type 0) (tree : S → ℕ → Tree)
         (others_of (Some f) (number name) (map Some list) (map number names) e),
   )
 
-  -- where all names have numbers, the function of none is too big
+  -- if all names have numbers, the function of none is too big
   pub all_fit : (state : S) (bound : ℕ) (others names : List (List ℕ))
       (value : List ℕ → BooleanFunction) (number : List ℕ → Option Func)
       → AreAll holds tree limit state (λ name. has others name || has names name) value number

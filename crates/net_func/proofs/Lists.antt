@@ -1,4 +1,4 @@
--- Lists: tests that all names pass, and lists of numbers that stand at names.
+-- Lists: tests that all names pass, and lists of the numbers of names.
 use Rattle.std.proofs.Common.{◌≡◌, ℕ, zero, suc, ◌+◌, ◌<◌, Bool, true, false, ◌||◌, List, [], ◌∷◌, ◌++◌, length, take, drop, get_or, map, bytes_eq, refl, sym, ap, ◌∙◌, subst, arith}
 use Rattle.std.specs.List.{list_all}
 use Rattle.std.proofs.lemmas.Bool.{and_parts, and_from}
@@ -23,7 +23,7 @@ tests_all test (name ∷ names) passes =
     and_from (test name) (list_all test names) (passes name (has_head name names))
     (tests_all test names (λ other among. passes other (has_tail name names other among)))
 
--- a name more of some
+-- one more name of some
 has_end : (names : List (List ℕ)) (k : ℕ) (d other : List ℕ) → k < length names
     → has (take (suc k) names) other ≡ (has (take k names) other || bytes_eq other
     (get_or names k d))

@@ -1,5 +1,5 @@
--- A function in the making: the numbers of before stand, and the last number means what is made so
--- far.
+-- The steps by which a function is made: earlier numbers stay valid, and the last number means what
+-- was made so far.
 use Rattle.std.specs.List.{AllByRecursion}
 use Rattle.std.proofs.Common.{◌≡◌, ℕ, zero, suc, ◌+◌, ◌<◌, Bool, true, false, not, ◌&&◌, ◌||◌, Option, None, List, [], ◌∷◌, length, take, get_or, refl, sym, ap, ◌∙◌, subst, arith}
 use Rattle.std.proofs.lemmas.List.{get_or-map, length-map}
@@ -28,7 +28,7 @@ module _ {S : Type 0} (holds : S → ℕ → Type 0) (tree : S → ℕ → Tree)
     pub stays : Stays holds tree limit before now
     pub means : Means holds tree limit now made.0 f
 
-  -- a number that stood stands for the same function
+  -- a number that was valid means the same function
   pub same_computed : (before now : S) (number : Func) → Stays holds tree limit before now
       → holds before number.0
       → (point : ℕ → Bool) → computed tree now number point ≡ computed tree before number point
@@ -53,7 +53,7 @@ module _ {S : Type 0} (holds : S → ℕ → Type 0) (tree : S → ℕ → Tree)
             stood.1 point,
       ) refl
 
-  -- a literal more of a row
+  -- one more literal of a row
   pub literal_point : (before now : S) (product : Func) (row : List (Option Bool)) (inputs : List
       Func) (k : ℕ) (d : Func) (literal : Option Bool)
       → IsMaking before now product (λ point. matches (take k row) (bits_of tree before inputs
@@ -117,7 +117,7 @@ module _ {S : Type 0} (holds : S → ℕ → Type 0) (tree : S → ℕ → Tree)
       subst (λ (r : List (Option Bool)). Means holds tree limit now made.0 (λ point. matches r
       (bits_of tree before inputs point))) (take-all row n e) making.means
 
-  -- a row more of a sum
+  -- one more row of a sum
   pub sum_none : (before now : S) (made : Func) (rows : List (List (Option Bool))) (inputs : List
       Func) → Stays holds tree limit before now
       → Means holds tree limit now made.0 (constant false)

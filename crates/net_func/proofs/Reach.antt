@@ -1,5 +1,5 @@
--- Signals that a signal does not reach: their functions stay where it is fixed, and where its table
--- gives place to another one.
+-- Signals that a signal does not reach: their functions stay if it is fixed, and if its table is
+-- replaced by another one.
 use Rattle.std.proofs.Common.{◌≡◌, ℕ, Bool, true, false, if◌then◌else◌, Option, Some, None, is_some, unwrap_or, List, [], ◌∷◌, bytes_eq, refl, sym, ap, ◌∙◌}
 use Rattle.std.specs.List.{AllByRecursion, list_all}
 use Rattle.std.proofs.lemmas.Bool.{false≢true, and_parts, and_from}
@@ -18,7 +18,7 @@ use Rattle.net_func.specs.Numbering.{has_number}
 use Rattle.net_func.specs.Signals.{leaves_at, own_function, forced_function, fixed}
 use Rattle.net_func.specs.Kept.{IsUnreached}
 
--- none have been taken over yet
+-- none have been copied yet
 pub unreached_none : (tables : List Table) (name : List ℕ) (number some : List ℕ → Option Func)
     → ((signal : List ℕ) → some signal ≡ None) → IsUnreached tables name number some
 unreached_none tables name number some none = record {
@@ -28,7 +28,7 @@ unreached_none tables name number some none = record {
       absurd (false≢true (sym (ap (λ (found : Option Func). is_some found) (none signal)) ∙ there));
 }
 
--- a test that more pass
+-- a test that more items pass
 all_more : (test other : List ℕ → Bool) (names : List (List ℕ))
     → ((name : List ℕ) → test name ≡ true → other name ≡ true) → list_all test names ≡ true
     → list_all other names ≡ true
@@ -38,7 +38,7 @@ all_more test other (name ∷ names) more all =
     and_from (other name) (list_all other names) (more name parts.0)
     (all_more test other names more parts.1)
 
--- one more is taken over
+-- one more is copied
 pub unreached_more : (tables : List Table) (name signal : List ℕ)
     (number old new : List ℕ → Option Func) (f : Func)
     → IsUnreached tables name number old → bytes_eq signal name ≡ false
@@ -77,7 +77,7 @@ unreached_more tables name signal number old new f was apart reads there put = r
         reads table (ap (driver tables) (same_name signal other is) ∙ at)
     closed other table at false is known = was.closed other table at known
 
--- signals that are not reached are other ones, and so is what their tables read
+-- signals that are not reached are other signals, and so are those that their tables read
 apart_from : (name : List ℕ) (some : List ℕ → Option Func) → some name ≡ None
     → (signal : List ℕ) → has_number some signal ≡ true → bytes_eq signal name ≡ false
 apart_from name some none signal known =
@@ -116,7 +116,7 @@ module _ (circuit : Circuit) (acyclic : IsAcyclic circuit.tables) (name : List �
       (apart_from name some unreached.apart other there))
       signal known
 
--- its table gives place to another one
+-- its table is replaced by another one
 pub unreached_replaced : (circuit : Circuit) (new : Table) → IsAcyclic circuit.tables
     → IsAcyclic (replaced circuit.tables new) → (number some : List ℕ → Option Func)
     → IsUnreached circuit.tables new.output number some

@@ -1,5 +1,5 @@
--- A table gives place to another one of its signal that reads no more: the order of tables stays,
--- and so do the functions of the signals that the table does not reach.
+-- A table is replaced by another one with its signal that reads nothing else: the order of tables
+-- stays, and so do the functions of the signals that the table does not reach.
 use Rattle.std.proofs.Common.{◌≡◌, ℕ, ◌<◌, cond, [], ◌∷◌, Bool, true, false, ◌||◌, Option, Some, None, is_some, List, set, slice_get, length, bytes_eq, refl, sym, ap, ◌∙◌, subst, inl, inr, ◌⊎◌}
 use Rattle.std.proofs.lemmas.Bool.{cases_eq, false≢true}
 use Rattle.std.proofs.lemmas.Option.{same_Some, none-some}
@@ -34,7 +34,7 @@ use Rattle.net_func.proofs.Circuits.{own_settled}
 use Rattle.net_func.proofs.Keeping.{some_none, some_later}
 use Rattle.net_func.proofs.Reach.{unreached_replaced}
 
--- each table still stands behind what it reads
+-- each table is still after those that it reads
 ordered_replaced : (tables : List Table) (names : List (List ℕ)) (new : Table)
     → has (outputs_of tables) new.output ≡ true
     → ((old : Table) → driver tables new.output ≡ Some old → (input : List ℕ)
@@ -69,7 +69,7 @@ ordered_replaced tables names new driven reads was = record {
               (ap (λ (t : Table). has t.inputs input) is ∙ among),
         )
 
--- and each at its place
+-- and each has its index
 module _ (tables : List Table) (place : List ℕ → Option ℕ) (new : Table) (i : ℕ)
     (once : all_different (outputs_of tables) ≡ true) (index : IsIndex tables place)
     (at : place new.output ≡ Some i) where
@@ -235,7 +235,7 @@ module _ {S : Type 0} (holds : S → ℕ → Type 0) (tree : S → ℕ → Tree)
         (free_function (circuit_of kept)) (number_in kept.free) none.free;
   }
 
--- all is left where a table gives place to itself
+-- all is kept if a table is replaced by itself
 pub replaced_itself : (tables : List Table) (table : Table)
     → driver tables table.output ≡ Some table → replaced tables table ≡ tables
 unfolding driver replaced
@@ -255,7 +255,7 @@ all_left kept = record {
   free = record { tests = λ name. refl; same = λ name f at. at; stays = λ name f at point. refl };
 }
 
--- what is left where a table gives place to another one
+-- what is kept if a table is replaced by another one
 pub some_left : (before after : KeptFunctions) (new : Table) → IsReady before → IsReady after
     → circuit_of after ≡ with_replaced (circuit_of before) new
     → IsUnreached (circuit_of before).tables new.output (number_in before.own) (number_in after.own)

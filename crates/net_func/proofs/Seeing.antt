@@ -1,4 +1,4 @@
--- Changes that are seen, one after the other.
+-- Changes that are observed, one after the other.
 use Rattle.std.proofs.Common.{◌≡◌, ℕ, zero, suc, ◌+◌, ◌<◌, Bool, true, false, not, ◌&&◌, ◌||◌, Option, Some, None, List, [], ◌∷◌, length, take, get_or, slice_get, map, refl, sym, ap, ap₂, ◌∙◌, subst, inl, inr, ◌⊎◌, arith}
 use Rattle.std.proofs.Math.Bool.{or_assoc}
 use Rattle.func_core.specs.Trees.{BooleanFunction, Tree, eval, differ, constant}
@@ -11,7 +11,7 @@ use Rattle.net_func.specs.Changes.{free_bit, changed_by, shown_by, FreeStands, C
 use Rattle.net_func.specs.declared.seen.Change.{Change}
 use Rattle.net_func.proofs.Making.{same_computed, all_at, IsMaking}
 
--- a change more of some
+-- one more change
 seen-suc : (changes : List BooleanFunction) (k : ℕ) (d : BooleanFunction) (point : ℕ → Bool)
     → k < length changes
     → seen_among (take (suc k) changes) point ≡ (seen_among (take k changes) point || get_or changes
@@ -51,7 +51,7 @@ seen-more f changes k change point low is =
     ∙ ap (λ (g : BooleanFunction). seen_among (take k (map f changes)) point || g point)
     (mapped_at f changes k change (f change) low is)
 
--- an item within a list is the one at its place, whatever stands for items outside
+-- an item within a list is the one at its index, whatever the default outside is
 pub item_is : (changes : List Change) (k : ℕ) (d : Change) → k < length changes
     → get_or changes k d ≡ get_or changes k (get_or changes k d)
 item_is [] k d low = absurd (omega arith)
@@ -115,7 +115,7 @@ module _ {S : Type 0} (holds : S → ℕ → Type 0) (tree : S → ℕ → Tree)
       ap₂ (λ (a b : Bool). not a && b) (free_same before now change.free stays stood.free point)
       (changed_same before now change stays stood point)
 
-  -- a change by its number, where it is not free
+  -- a change by its number, if it is not don't-care
   pub outside_point : (before now : S) (change : Change) (changed : Func)
       → Stays holds tree limit before now → FreeStands holds before change.free
       → Means holds tree limit now changed.0 (changed_by tree before change) → (point : ℕ → Bool)
@@ -125,7 +125,7 @@ module _ {S : Type 0} (holds : S → ℕ → Type 0) (tree : S → ℕ → Tree)
       ap₂ (λ (a b : Bool). not a && b) (free_same before now change.free stays stood point)
       (means.is_tree.computes point)
 
-  -- what was seen, or is shown
+  -- what was observed before, or is shown
   pub either_point : (before now : S) (seen shown : Func) (f : BooleanFunction)
       → Stays holds tree limit before now → holds before seen.0
       → Means holds tree limit now shown.0 f → (point : ℕ → Bool)
@@ -136,7 +136,7 @@ module _ {S : Type 0} (holds : S → ℕ → Type 0) (tree : S → ℕ → Tree)
       point)
       (means.is_tree.computes point)
 
-  -- a change more is seen
+  -- one more change is observed
   pub more_point : (before now : S) (seen : Func) (changes : List Change) (k : ℕ) (change : Change)
       → IsMaking holds tree limit before now seen (seen_among
       (take k (map (shown_by tree before) changes)))
@@ -197,7 +197,7 @@ module _ {S : Type 0} (holds : S → ℕ → Type 0) (tree : S → ℕ → Tree)
             (more_point before now seen changes k change making stand low is),
       )
 
--- nothing changes where both functions have one number
+-- nothing changes if both functions have one number
 pub unchanged_point : {S : Type 0} (tree : S → ℕ → Tree) (state : S) (change : Change)
     → change.low.0 ≡ change.high.0 → (b : Bool) (point : ℕ → Bool)
     → b ≡ (b || shown_by tree state change point)

@@ -1,5 +1,5 @@
--- Where a signal is seen: fixing it at 0 and at 1 differ just where turning it over changes
--- something; and the changes by numbers are those of the circuit.
+-- Where a signal is observable: fixing it at 0 and at 1 differ exactly where complementing it
+-- changes something; and the changes by numbers are those of the circuit.
 use Rattle.std.proofs.Common.{◌≡◌, ℕ, zero, suc, Bool, true, false, not, ◌&&◌, ◌||◌, if◌then◌else◌, Option, Some, None, is_some, unwrap_or, List, [], ◌∷◌, ◌++◌, take, drop, get_or, slice_get, map, bytes_eq, refl, sym, ap, ap₂, ◌∙◌, subst, inl, inr, ◌⊎◌}
 use Rattle.std.specs.List.{AllByRecursion, list_all}
 use Rattle.std.proofs.Math.Path.{fun_ext}
@@ -77,7 +77,7 @@ difference circuit sound name root point =
     between (own_function circuit name point) (λ bit. forced_function circuit name bit root point)
     (own_function circuit root point) (own_fixed circuit sound name root point)
 
--- what is given has a number, and so has what latches and outputs take
+-- what is given has a number, and so have the signals that latches and outputs read
 given_known : (circuit : Circuit) (name : List ℕ) → has (given circuit) name ≡ true
     → (has (leaf_names circuit) name || has (outputs_of circuit.tables) name) ≡ true
 unfolding given
@@ -142,7 +142,7 @@ reads_known circuit number name table sound known at =
     (has_front (table_inputs circuit.tables) (latch_inputs circuit ++ circuit.outputs) input
     (driver_reads circuit.tables name table input at reads))))
 
--- changes by the numbers at names, one by one
+-- changes by the numbers of names, one by one
 first_of : {A : Type 0} (x y : A) (xs ys : List A) → x ∷ xs ≡ y ∷ ys → x ≡ y
 first_of {A = A} x y xs ys e = ap (λ (l : List A). get_or l zero x) e
 
@@ -369,7 +369,7 @@ module _ {S : Type 0} (holds : S → ℕ → Type 0) (tree : S → ℕ → Tree)
       (λ root change is. fun_ext (shown_is state circuit name low high free place halves all index
       root change is)))
 
-  -- the numbers of all changes stand
+  -- the numbers of all changes are valid
   change_stands : (state : S) (low high free : List ℕ → Option Func) → NumbersStand holds state low
       → NumbersStand holds state high
       → ((root : List ℕ) → FreeStands holds state (free root)) → (root : List ℕ) (change : Change)
@@ -406,7 +406,7 @@ module _ {S : Type 0} (holds : S → ℕ → Type 0) (tree : S → ℕ → Tree)
       (change_stands state low high (free_in free place) low_stand high_stand
       (free_in_stands state free place free_stand))))
 
-  -- why where a signal is seen is refused
+  -- why the function of where a signal is observable is refused
   pub seen_big : (state : S) (circuit : Circuit) (name : List ℕ) (low high free : List ℕ → Option
       Func)
       (place : List ℕ → Option ℕ) (list : List Change) (bound : ℕ) → AreHalves state circuit name
@@ -487,7 +487,7 @@ module _ {S : Type 0} (holds : S → ℕ → Type 0) (tree : S → ℕ → Tree)
       → AreRight holds tree limit state number value → NumbersStand holds state number
   right_stands state number value right name f at = (right name f at).stands
 
-  -- where one of all changes is seen the signal is seen
+  -- where one of all changes occurs the signal is observable
   pub seen_means : (state later : S) (circuit : Circuit) (name : List ℕ) (low high free : List ℕ →
       Option Func)
       (place : List ℕ → Option ℕ) (list items : List Change) (seen : Func) → AreHalves state circuit

@@ -1,4 +1,4 @@
--- Changes of signals by the numbers of functions, and where they are seen.
+-- Changes of signals by the numbers of functions, and where they are observed.
 -- Source: De Micheli, "Synthesis and Optimization of Digital Circuits", chapter 8 (the Boolean
 -- difference of a function with regard to a signal, and observability don't-cares).
 use Rattle.std.specs.Prelude.{◌≡◌, ℕ, false, not, ◌&&◌, Option, Some, None, List, ◌++◌, ◌⊎◌, map, take, is_some, slice_get, if◌then◌else◌}

@@ -1,4 +1,4 @@
--- Functions of a circuit that are kept by numbers, and what is left of them where a table changes.
+-- Functions of a circuit that are kept by numbers, and which of them remain if a table changes.
 -- Source: De Micheli, "Synthesis and Optimization of Digital Circuits", chapter 8 (logic networks:
 -- the transitive fanout of a vertex, and transformations that change one vertex).
 use Rattle.std.specs.Prelude.{◌≡◌, ℕ, Bool, Option, Some, None, List}

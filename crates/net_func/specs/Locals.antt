@@ -9,7 +9,7 @@ use Rattle.circuit_model.specs.Values.{literal_of}
 use Rattle.circuit_model.specs.declared.circuit.Table.{Table}
 use Rattle.func_core.specs.Numbers.{IsBig}
 
--- what a table says of its output: its inputs, its rows as literals by columns, and its phase
+-- the local function of a table: its inputs, its rows as literals by columns, and its phase
 pub record LocalFunction : Type 0 where
   pub inputs : List (List ℕ)
   pub rows : List (List (Option Bool))

@@ -56,8 +56,8 @@ AreClosed tables number =
     (input : List ℕ) → has (table_inputs tables) input ≡ true
     → (has (outputs_of tables) input || has_number number input) ≡ true
 
--- exactly the names of a test got numbers; all numbers are valid; and for any functions of names
--- that the earlier numbers meant, and that fit, each number means the function of its name
+-- exactly the names of a test get numbers; all numbers are valid; and for any functions of names
+-- that the earlier numbers mean, and that fit, each number means the function of its name
 pub record Adds {S : Type 0} (holds : S → ℕ → Type 0) (tree : S → ℕ → Tree) (limit : S → ℕ)
     (before after : S) (old new : List ℕ → Option Func) (test : List ℕ → Bool)
     (Fits : (List ℕ → BooleanFunction) → Type 0) : Type 0 where
@@ -77,8 +77,8 @@ pub record IsOrderOf (tables : List Table) (order : TableOrder) : Type 0 where
   pub places : IsIndex tables (get bytes_eq order.places)
   pub names : IsOrdered tables order.names
 
--- the bits that a valuation gives leaves: that of each is the variable of its index, from a first
--- index on
+-- the bits of leaves at a valuation: that of each is the variable of its index, from a first index
+-- on
 unfoldable pub leaf_bits : ℕ → List (List ℕ) → (ℕ → Bool) → Leaves
 leaf_bits place [] point name = None
 leaf_bits place (first ∷ names) point name =

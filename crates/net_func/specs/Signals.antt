@@ -43,7 +43,7 @@ free_function circuit =
     function_over circuit.dont_care
     (λ point. dont_care_leaves circuit.dont_care (leaves_at circuit point))
 
--- one leaf more: a signal that has this bit, whatever drives it
+-- one more leaf: a signal that has this bit, whatever drives it
 unfoldable pub fixed : List ℕ → Bool → Leaves → Leaves
 fixed name bit leaves signal = if bytes_eq signal name then Some bit else leaves signal
 
@@ -52,7 +52,7 @@ abbrev pub forced_function : Circuit → List ℕ → Bool → List ℕ → Bool
 forced_function circuit name bit =
     function_over circuit.tables (λ point. fixed name bit (leaves_at circuit point))
 
--- the function of a signal where one signal is complemented
+-- the function of a signal if another one is complemented
 abbrev pub turned_function : Circuit → List ℕ → List ℕ → BooleanFunction
 turned_function circuit name signal = λ point.
     forced_function circuit name (not (own_function circuit name point)) signal point
@@ -109,7 +109,7 @@ AreWithin limit circuit =
     (signal : List ℕ) → has (outputs_of circuit.tables) signal ≡ true
     → IsBig limit (own_function circuit signal) → ⊥
 
--- a fault that blames a signal has a cause there; want of memory has no cause
+-- a fault that blames a signal has a cause there; running out of memory needs no cause
 abbrev pub Blames : NetFuncFault → (List ℕ → Type 0) → Type 0
 Blames (TooBig name) Cause = Cause name
 Blames Memory Cause = Unit {0}

@@ -2,10 +2,10 @@
 //!
 //! `TableOrder` lists the outputs of tables topologically, with the index of each table by its
 //! output; `add_all` makes the functions in that order, and skips a signal that has a number
-//! already. Invariant: every number holds in the object, and each number that was there before is
-//! kept. Callers rely on `Adds`: for any values of the signals that the earlier numbers mean and
-//! that solve the equations of the remaining tables, each number means the value of its signal. A
-//! signal is blamed only if a part of its table is too big.
+//! already. Invariant: every number is valid in the object, and each earlier number is kept.
+//! Callers rely on `Adds`: for any values of the signals that the earlier numbers mean and that
+//! solve the equations of the remaining tables, each number means the value of its signal. A signal
+//! is blamed only if a part of its table is too big.
 
 ghost use Rattle.std.specs.Prelude.{◌≡◌, ℕ, true, Some, None, Err, List, map, bytes_eq, if◌then◌else◌, IfOk, IfErr, OnOk};
 ghost use Rattle.std.specs.List.{list_all};
@@ -42,7 +42,7 @@ pub(crate) struct TableOrder {
     pub names: Names,
 }
 
-// Written by hand, so that a function that owns an order drops it in one call.
+// Written out, so that a function that owns an order drops it in one call.
 impl Drop for TableOrder {
     fn drop(self) {
         let TableOrder {

@@ -1,7 +1,7 @@
 //! Why the functions of signals were not made: a function is too big, or memory ran out.
 //!
-//! A fault of `func_core` names no signal; `fault_at` and `renamed` give it the name of the signal
-//! for which the function was made.
+//! A fault of `func_core` has no name of a signal; `fault_at` and `renamed` add the name of the
+//! signal for which the function was made.
 
 ghost use Rattle.std.specs.Prelude.{◌≡◌, ℕ, List};
 ghost use Rattle.net_func.specs.Signals.{Blames};
@@ -11,7 +11,7 @@ use func_core::FuncFault;
 use sis_base::Copied;
 use std::alloc::{AllocError, Global};
 
-/// Why no functions were given.
+/// Why no functions were made.
 #[derive(Debug, PartialEq, Drop)]
 pub enum NetFuncFault {
     /// A part of a function is above the object's limit; the name is that of its signal.

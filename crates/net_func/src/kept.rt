@@ -32,16 +32,16 @@ use net_core::Network;
 use sis_base::Whole;
 use std::alloc::{AllocError, Global};
 
-/// A circuit, with numbers of functions of its signals and of its don't-care part, all in one
-/// object. Functions made for one table are kept for the next. A table that is replaced drops only
-/// the numbers of signals in its transitive fanout.
+/// A circuit, with numbers of functions of its signals and of its don't-care part, all of one
+/// object. Functions made for one table are kept for the next. If a table is replaced only the
+/// numbers of signals in its transitive fanout are dropped; no clause says so.
 pub struct KeptFunctions {
     ordered: OrderedCircuit,
     own: Numbers,
     free: Numbers,
 }
 
-// Written by hand, so that a function that owns kept functions drops them in one call.
+// Written out, so that a function that owns kept functions drops them in one call.
 impl Drop for KeptFunctions {
     fn drop(self) {
         let KeptFunctions {
@@ -72,7 +72,7 @@ impl KeptFunctions {
         })
     }
 
-    /// Drops all numbers, as is needed where the object has taken them back; takes no memory.
+    /// Drops all numbers, as is needed after the object was cleared; allocates nothing.
     pub fn forget(&mut self)
         ensures ready { IsReady self.old → IsReady self.new }
         ensures same { circuit_of self.new ≡ circuit_of self.old }
@@ -84,8 +84,8 @@ impl KeptFunctions {
 
     /// The functions needed to simplify a table: those of its inputs and of its output over the
     /// leaves, and that of where its output is observable, as `care` gives it. They are refused if
-    /// the function of any table's signal is too big; the fault names this table. After an error no
-    /// numbers are kept.
+    /// the function of any table's signal is too big. A fault has the name that was asked for,
+    /// whichever function is too big. After an error no numbers are kept; no clause says so.
     pub fn turn<F: Functions>(
         &mut self,
         alloc: Global,
@@ -125,8 +125,8 @@ impl KeptFunctions {
     }
 
     /// Replaces the table of a signal by one whose inputs are among the old ones. Numbers of
-    /// signals in its transitive fanout are dropped, unless the table is the same. An error changes
-    /// nothing.
+    /// signals in its transitive fanout are dropped, unless the table is the same. After an error
+    /// nothing has changed.
     pub fn replace(&mut self, alloc: Global, table: Table) -> Result<(), AllocError>
         requires ready { IsReady self.old }
         requires driven { has (outputs_of (circuit_of self.old).tables) table.output ≡ true }

@@ -36,7 +36,7 @@ pub(crate) fn add_names(
     Ok(())
 }
 
-/// Puts the leaves behind the last name.
+/// Appends the leaves.
 #[tactic(auto, using(std::proofs::lemmas::Grind::common_steps))]
 pub(crate) fn add_leaf_names(
     alloc: Global,
@@ -49,7 +49,7 @@ pub(crate) fn add_leaf_names(
     add_latches(alloc, names, circuit.latches.as_slice())
 }
 
-/// The leaves: the inputs, then the latches' outputs.
+/// The leaves: the inputs, then the outputs of latches.
 pub(crate) fn leaf_names(alloc: Global, circuit: &Circuit) -> Result<Names, AllocError>
     ensures { IfOk result (λ names. names ≡ leaf_names circuit.now) }
 {

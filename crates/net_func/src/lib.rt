@@ -7,9 +7,9 @@
 //! `signal_functions` those of all signals of a network and of its don't-care part, `forced` those
 //! with one signal fixed, `care` that of where a signal is observable, and `KeptFunctions` all that
 //! are needed to simplify one table: it keeps functions from one table to the next, and if a table
-//! changes only its transitive fanout is computed again. Promised: each number means exactly its
-//! function (`specs/Signals.antt`, `specs/Locals.antt`), one is refused only if a part that is
-//! built for it is too big, and earlier numbers and the limit stay, whatever the answer.
+//! changes only its transitive fanout is recomputed; no clause says so. Promised: each number means
+//! exactly its function (`specs/Signals.antt`, `specs/Locals.antt`), one is refused only if a part
+//! that is built for it is too big, and earlier numbers and the limit stay, whatever the result.
 #![tactic(auto)]
 
 mod building;

@@ -2,8 +2,8 @@
 //!
 //! The signals of a circuit are listed as its leaves and then its tables in topological order;
 //! those of its don't-care part as its tables alone, in their topological order. Callers rely on
-//! `AreNumbered`: exactly these names, each with the number of its function. An error names a
-//! signal only if a part of its table is too big.
+//! `AreNumbered`: exactly these names, each with the number of its function. An error has the name
+//! of a signal only if a part of its table is too big.
 
 ghost use Rattle.std.specs.Prelude.{◌≡◌, ℕ, true, false, ◌||◌, List, ◌++◌, bytes_eq, IfOk, IfErr};
 ghost use Rattle.circuit_model.specs.Names.{has};

@@ -1,7 +1,7 @@
 //! Tables read literal by literal: the trait `Local`.
 //!
 //! `table_function` needs no more of a table than this trait gives: inputs, rows of literals, and
-//! phase. It is implemented here for the tables of `circuit_model`, which hold characters.
+//! phase. It is implemented here for the tables of `circuit_model`, whose rows are characters.
 
 ghost use Rattle.std.specs.Prelude.{◌≡◌, ◌<◌, None, [], length, map, slice_index_or};
 ghost use Rattle.circuit_model.specs.Values.{literal_of};
@@ -28,7 +28,7 @@ pub trait Local {
         ensures { result
             ≡ slice_index_or (slice_index_or (local self.now).rows row []) place None };
 
-    /// The value of the table where some row matches.
+    /// The value of the table if some row matches.
     fn phase(&self) -> bool
         ensures { result ≡ (local self.now).phase };
 }

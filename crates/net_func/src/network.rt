@@ -3,10 +3,10 @@
 //!
 //! Source: De Micheli, "Synthesis and Optimization of Digital Circuits", chapter 8 (observability
 //! don't-cares). These are the public calls that keep nothing: each converts the network to a
-//! circuit and makes all functions anew over its leaves. Callers rely on each number to mean
-//! exactly its function, and on earlier numbers and the limit to stay, whatever the answer. An
-//! error of `signal_functions` names a table a part of which is too big; `forced` and `care` always
-//! name the signal they were asked for.
+//! circuit and makes all functions again over its leaves. Callers rely on each number to mean
+//! exactly its function, and on earlier numbers and the limit to stay, whatever the result. An
+//! error of `signal_functions` has the name of a table a part of which is too big; one of `forced`
+//! or `care` always has the name that was asked for.
 
 ghost use Rattle.std.specs.Prelude.{◌≡◌, ℕ, true, ◌⊎◌, List, ◌++◌, IfOk, IfErr};
 ghost use Rattle.circuit_model.specs.Names.{has};

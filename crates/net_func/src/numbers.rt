@@ -1,8 +1,8 @@
 //! A map from the names of signals to the numbers of their functions.
 //!
-//! `Numbers` itself says nothing of what a number means: that is in `specs/Numbering.antt`
-//! (`AreRight`, `AreAll`, `AreSome`), for an object whose numbers they are. A later insertion at a
-//! name replaces the earlier one. `new` and `clear` take no memory.
+//! `Numbers` itself does not say what a number means: that is in `specs/Numbering.antt`
+//! (`AreRight`, `AreAll`, `AreSome`), for an object whose numbers they are. Inserting a number for
+//! a name that has one replaces it. `new` and `clear` allocate nothing.
 
 ghost use Rattle.std.specs.Prelude.{◌≡◌, ℕ, true, Some, None, List, map, bytes_eq, if◌then◌else◌, IfOk, OnOk};
 ghost use Rattle.std.specs.List.{list_all};
@@ -22,7 +22,7 @@ pub(crate) struct Numbers {
     by_name: IndexMap<Name, Func>,
 }
 
-// Written by hand, so that a function that owns numbers drops them in one call.
+// Written out, so that a function that owns numbers drops them in one call.
 impl Drop for Numbers {
     fn drop(self) {
         let Numbers { by_name: _by_name } = self;
@@ -30,7 +30,7 @@ impl Drop for Numbers {
 }
 
 impl Numbers {
-    /// No numbers; takes no memory.
+    /// No numbers; allocates nothing.
     pub(crate) fn new(alloc: Global) -> Numbers
         ensures { (name : List ℕ) → number_in result name ≡ None }
     {
@@ -60,7 +60,7 @@ impl Numbers {
         Ok(())
     }
 
-    /// Removes all numbers; takes no memory.
+    /// Removes all numbers; allocates nothing.
     pub(crate) fn clear(&mut self)
         ensures { (name : List ℕ) → number_in self.new name ≡ None }
     {

@@ -4,7 +4,7 @@
 //! Invariant (`IsInOrder`): the circuit is sound, `leaves` are its leaves, and both orders are
 //! those of its tables and of its don't-care tables. `put_table` keeps the orders, as the new table
 //! reads nothing that the old one did not read. The calls `add_own`, `add_free` and `forced_beside`
-//! complete partial numbers: callers rely on `AreAll`, where exactly the signals have numbers, each
+//! complete partial numbers: callers rely on `AreAll`, that exactly the signals have numbers, each
 //! that of its function.
 
 ghost use Rattle.std.specs.Prelude.{◌≡◌, ◌<◌, ℕ, List, Some, length, slice_set, true, false, bytes_eq, IfOk, IfErr, OnOk};
@@ -38,7 +38,7 @@ pub(crate) struct OrderedCircuit {
     pub dont_care: TableOrder,
 }
 
-// Written by hand, so that a function that owns a circuit drops it in one call.
+// Written out, so that a function that owns a circuit drops it in one call.
 impl Drop for OrderedCircuit {
     fn drop(self) {
         let OrderedCircuit {
@@ -67,7 +67,7 @@ pub(crate) fn in_order(alloc: Global, circuit: Whole<Circuit>) -> Result<Ordered
     })
 }
 
-// Whether two tables of one signal are the same; a clause says so of true alone.
+// Whether two tables with one signal are the same; the clause says so only for true.
 fn is_same(one: &Table, other: &Table) -> bool
     requires { one.now.output ≡ other.now.output }
     ensures { result ≡ true → one.now ≡ other.now }
@@ -81,7 +81,7 @@ fn is_same(one: &Table, other: &Table) -> bool
     false
 }
 
-/// Whether a table is already that of its signal; a clause says so of true alone.
+/// Whether a table is already that of its signal; the clause says so only for true.
 pub(crate) fn stands(ordered: &OrderedCircuit, table: &Table) -> bool
     requires ready { IsInOrder ordered.now }
     requires driven { has (outputs_of ordered.now.circuit.tables) table.now.output ≡ true }
@@ -103,7 +103,7 @@ fn set_table(alloc: Global, tables: &mut Tables, place: usize, table: Table)
     *tables = Sequence::from_vec(items);
 }
 
-/// Replaces the table of a signal by one whose inputs are among the old ones; takes no memory.
+/// Replaces the table of a signal by one whose inputs are among the old ones; allocates nothing.
 pub(crate) fn put_table(alloc: Global, ordered: &mut OrderedCircuit, table: Table)
     requires ready { IsInOrder ordered.old }
     requires driven { has (outputs_of ordered.old.circuit.tables) table.output ≡ true }
@@ -173,8 +173,8 @@ pub(crate) fn add_free<F: Functions>(
     )
 }
 
-// Makes the functions of all signals that have no number yet, where one signal, which has a number,
-// is fixed at a bit.
+// Makes the functions of all signals that have no number yet, if one signal, which has a number, is
+// fixed at a bit.
 fn add_forced<F: Functions>(
     alloc: Global,
     functions: &mut F,
@@ -201,8 +201,8 @@ fn add_forced<F: Functions>(
     add_ordered(alloc, functions, numbers, leaves, tables, &ordered.tables)
 }
 
-/// The numbers of the functions of all signals where one signal, which a table drives, is fixed at
-/// a bit. Signals that it does not reach keep their own numbers.
+/// The numbers of the functions of all signals if one signal, which a table drives, is fixed at a
+/// bit. Signals that it does not reach keep their own numbers.
 pub(crate) fn forced_beside<F: Functions>(
     alloc: Global,
     functions: &mut F,

@@ -1,4 +1,4 @@
-//! Numbers of the functions of all signals of a circuit, made anew over its leaves.
+//! Numbers of the functions of all signals of a circuit, made again over its leaves.
 //!
 //! `own_numbers` gives those of the signals, `free_numbers` those of the don't-care part, and
 //! `forced_numbers` those of the signals with one of them fixed at a bit: its constant is added
@@ -77,8 +77,8 @@ pub(crate) fn free_numbers<F: Functions>(
     numbers_over(alloc, functions, circuit, circuit.dont_care.as_slice())
 }
 
-/// The numbers of the functions of all signals of a circuit where one signal, which a table drives,
-/// is fixed at a bit.
+/// The numbers of the functions of all signals of a circuit if one signal, which a table drives, is
+/// fixed at a bit.
 pub(crate) fn forced_numbers<F: Functions>(
     alloc: Global,
     functions: &mut F,

@@ -1,9 +1,9 @@
 //! The functions needed to simplify one table: its inputs, its output, and where the output is
 //! observable.
 //!
-//! `turn_of` completes the numbers that the caller keeps and reads the answer from them. Callers
-//! rely on `AreSome` for the completed numbers, and on `fits`: an answer means that no function of
-//! a table's signal is above the limit.
+//! `turn_of` completes the numbers that the caller keeps and reads the result from them. Callers
+//! rely on `AreSome` for the completed numbers, and on `fits`: a result means that no function of a
+//! table's signal is above the limit.
 
 ghost use Rattle.std.specs.Prelude.{◌≡◌, ℕ, true, ◌⊎◌, Some, List, map, IfOk, IfErr, OnOk};
 ghost use Rattle.circuit_model.specs.Names.{has};
@@ -56,7 +56,7 @@ fn input_numbers(
 
 /// The functions needed to simplify a table of a circuit: those of its inputs and of its output
 /// over the leaves, and that of where its output is observable. Functions of signals and of the
-/// don't-care part are made where they have no number yet.
+/// don't-care part are made if they have no number yet.
 pub(crate) fn turn_of<F: Functions>(
     alloc: Global,
     functions: &mut F,

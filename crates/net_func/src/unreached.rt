@@ -4,7 +4,7 @@
 //! Source: De Micheli, "Synthesis and Optimization of Digital Circuits", chapter 8 (the transitive
 //! fanout of a vertex). Leaves and then tables are visited in topological order; a number is copied
 //! if all inputs of the signal's table were copied. Callers rely on `IsUnreached`: some of the
-//! numbers, not that of the signal, closed under fanin. How many are copied no clause says.
+//! numbers, not that of the signal, closed under fanin. No clause says how many are copied.
 
 ghost use Rattle.std.specs.Prelude.{◌≡◌, true, None, Some, bytes_eq, IfOk, OnOk};
 ghost use Rattle.std.specs.List.{list_all};
@@ -65,7 +65,7 @@ fn take_over(
     }
 }
 
-// Copies the numbers of signals that a signal does not reach; inputs of their tables must come
+// Copies the numbers of signals that a signal does not reach; the inputs of their tables must come
 // before them.
 fn take_all_over(
     alloc: Global,

@@ -24,7 +24,7 @@ use Rattle.net_gains.specs.Numbers.{tables_in, cubes_at, IsKept, DoesPass}
 use Rattle.net_gains.specs.declared.counted.Counted.{Counted}
 use Rattle.net_gains.proofs.Decoded.{cubes_known}
 
--- ---- what gains among known cubes is known
+-- ---- what gains in known cubes is known
 
 all_in : {X : Type 0} (P : X → Type 0) (xs : List X) → AllByRecursion P xs → (x : X) → Has x xs → P x
 all_in P [] all x m = absurd m
@@ -73,7 +73,7 @@ module _ (names : List (List ℕ)) (rising : AreRising names) where
       cases zero e rest = rest (omega (arith, h, e, sum_by-cons (gains cover) (cubes_at names cubes) (map (cubes_at names) tables)))
       cases (suc n) e rest = gaining_known cover (cubes_at names cubes) (cover_known names (cubes_at names cubes) (cubes_known names rising cubes all.0).0) (omega (arith, e))
 
-  -- numbers that save have one number at least
+  -- numbers that save are at least one
   some_numbers : (numbers : List (List ℕ)) (tables : List (List (List ℕ))) → AreKnown tables → 0 < sum_by (gains_of numbers) tables → 1 ≤ literals_in numbers
   some_numbers numbers [] all h = absurd (omega (arith, h))
   some_numbers numbers (cubes ∷ tables) all h = cases (gains_of numbers cubes) refl (some_numbers numbers tables all.1)
@@ -102,7 +102,7 @@ module _ (names : List (List ℕ)) (rising : AreRising names) (counted : Counted
   abbrev pub ranks : Divisor → Option (Reverse ℕ)
   ranks = rank_in divisor_eq rank_of counted.totals
 
-  -- a cover that passes is that of a divisor
+  -- the cover of a divisor passes
   abbrev pub PassesAt : Divisor → Type 0
   PassesAt divisor = (cover : NamedCover) × DoesPass Passes names (cover_of divisor) cover
 
@@ -112,19 +112,19 @@ module _ (names : List (List ℕ)) (rising : AreRising names) (counted : Counted
   total_is : (cover : NamedCover) → KnownCover names cover → total_of counted.totals (coded names cover) ≡ total kept cover
   total_is cover known = is.sums.totals (coded names cover) ∙ tables_coded names rising cover (tables_in counted.tables.items) known is.known
 
-  -- what a divisor saves that has a rank
+  -- what a divisor with a rank saves
   rank_saves : (divisor : Divisor) (rank : Reverse ℕ) → ranks divisor ≡ Some rank
       → (literals_in (cover_of divisor) < total_of counted.totals (cover_of divisor)) × (total_of counted.totals (cover_of divisor) - literals_in (cover_of divisor) ≡ rank.0)
   rank_saves divisor rank has =
       subst (λ (n : ℕ). (literals_in (cover_of divisor) < n) × (n - literals_in (cover_of divisor) ≡ rank.0)) (sym (cover_is divisor counted.totals))
       (rank_told divisor (value_in divisor_eq counted.totals divisor) rank has)
 
-  -- a divisor that has a rank has a number
+  -- a divisor with a rank has a number
   pub ranked_long : (divisor : Divisor) (rank : Reverse ℕ) → ranks divisor ≡ Some rank → 1 ≤ literals_in (cover_of divisor)
   ranked_long divisor rank has =
       some_numbers names rising (cover_of divisor) (tables_in counted.tables.items) is.known (let saves = (rank_saves divisor rank has).0 in omega (arith, saves, is.sums.totals (cover_of divisor)))
 
-  -- a cover that saves is that of a divisor that has a rank
+  -- a cover that saves is that of a divisor with a rank
   record IsSaving (cover : NamedCover) : Type 0 where
     divisor : Divisor
     are : coded names cover ≡ cover_of divisor

@@ -1,4 +1,5 @@
--- What a map that keeps an order carries over: comparisons of lists, rising and sorted lists, and the items that another list has too.
+-- What a map that keeps an order carries over: comparisons of lists, rising and sorted lists, and
+-- the items that another list has too.
 use Rattle.std.proofs.Common.{◌≡◌, ℕ, ◌+◌, ◌<◌, zero, suc, Bool, true, false, ◌||◌, cond, List, [], ◌∷◌, map, Ordering, Less, Equal, Greater, refl, sym, ap, ap₂, ◌∙◌, subst, arith, inl, inr}
 use Rattle.std.specs.Cmp.{IsTotalOrder}
 use Rattle.std.specs.Cmp.Lexicographic.{slice_cmp}
@@ -12,7 +13,7 @@ use Rattle.cover_names.specs.Literals.{put_by, put_in, sorted}
 use Rattle.cover_names.proofs.Members.{Has}
 use Rattle.cover_names.proofs.Orders.{IsOrder}
 
--- a map under which known items compare as they did
+-- a map under which known items compare as they did before
 pub record Keeps {X Y : Type 0} (known : X → Type 0) (cmp : X → X → Ordering) (other_cmp : Y → Y → Ordering) (f : X → Y) : Type 0 where
   pub at : (x y : X) → known x → known y → other_cmp (f x) (f y) ≡ cmp x y
 
@@ -117,7 +118,7 @@ module _ {X Y : Type 0} (known : X → Type 0) (f : X → Y) where
   map_sum p q agree [] all = refl
   map_sum p q agree (x ∷ xs) all = sum_by-cons q (f x) (map f xs) ∙ ap₂ (λ (m n : ℕ). m + n) (agree x all.0) (map_sum p q agree xs all.1) ∙ sym (sum_by-cons p x xs)
 
--- ---- what stands in lists
+-- ---- the items of lists
 
 pub has_mapped : {X Y : Type 0} (f : X → Y) (xs : List X) (y : Y) → Has y (map f xs) → (x : X) × Has x xs × (y ≡ f x)
 has_mapped f [] y m = absurd m
@@ -127,7 +128,7 @@ has_mapped {X} f (first ∷ xs) y m =
       | inr n ↦ (let p = has_mapped f xs y n in (p.0, inr p.1, p.2))
     ]
 
--- a sum that is not 0 has an item that counts
+-- a sum above 0 has an item whose summand is above 0
 pub some_counts : {X : Type 0} (g : X → ℕ) (xs : List X) → 0 < sum_by g xs → (x : X) × Has x xs × (0 < g x)
 some_counts g [] h = absurd (omega arith)
 some_counts {X} g (x ∷ xs) h = cases (g x) refl (λ k. some_counts g xs k)

@@ -1,4 +1,5 @@
--- Codes carry over all that the orders of literals, cubes and covers decide: what two cubes share, sums of two cubes, and the gains of rows.
+-- Codes carry over all that the orders of literals, cubes and covers decide: what two cubes share,
+-- sums of two cubes, and the gains of rows.
 use Rattle.std.proofs.Common.{◌≡◌, ℕ, ◌+◌, ◌-◌, ◌*◌, ◌<◌, zero, suc, Bool, true, false, not, ◌&&◌, cond, List, [], ◌∷◌, map, length, nat_eq, nat_cmp, is_eq, Equal, refl, sym, ap, ap₂, ◌∙◌, subst, arith, inl, inr, lt-ltb}
 use Rattle.std.specs.Cmp.{Equal-is, unsigned_ties}
 use Rattle.std.specs.List.{AllByRecursion, list_any, sum_by}
@@ -69,7 +70,7 @@ coded_known names (cube ∷ cubes) known =
 
 -- ---- pairs
 
--- pairs of what known items are mapped to
+-- pairs of the images of known items
 pub map_pairs : {X Y : Type 0} (known : X → Type 0) (f : X → Y) (gain : X → X → ℕ) (other : Y → Y → ℕ) → ((x y : X) → known x → known y → other (f x) (f y) ≡ gain x y)
     → (xs : List X) → AllByRecursion known xs → over_pairs other (map f xs) ≡ over_pairs gain xs
 unfolding over_pairs
@@ -77,7 +78,7 @@ map_pairs known f gain other agree [] all = refl
 map_pairs known f gain other agree (x ∷ xs) all =
     ap₂ (λ (m n : ℕ). m + n) (map_sum known f (gain x) (other (f x)) (λ y h. agree x y all.0 h) xs all.1) (map_pairs known f gain other agree xs all.1)
 
--- a pair that counts
+-- a pair whose summand is above 0
 pub some_pair : {X : Type 0} (gain : X → X → ℕ) (xs : List X) → 0 < over_pairs gain xs → (x : X) × (y : X) × Has x xs × Has y xs × (0 < gain x y)
 unfolding over_pairs
 some_pair gain [] h = absurd (omega arith)
@@ -90,7 +91,7 @@ some_pair {X} gain (x ∷ xs) h = cases (sum_by (gain x) xs) refl (λ k. some_pa
 
 -- ---- gains
 
--- what a sum saves: nothing where a part is empty, or the sum is another one
+-- what a sum saves: 0 if a part is empty, or the sum is another one
 abbrev pub gain_from : Bool → Bool → Bool → ℕ → ℕ → ℕ → ℕ
 gain_from left right same both first second = cond {A = ℕ} (not left && not right && same) (both + first + second - 1) 0
 
@@ -218,7 +219,7 @@ module _ (names : List (List ℕ)) (rising : AreRising names) where
       ∙ coded_known names ((one.0 ∷ other.0 ∷ []) ∷ [])
       (known_cover names ((one.0 ∷ other.0 ∷ []) ∷ []) ((all_has (Known names) cube.0 known one.0 one.1, (all_has (Known names) cube.0 known other.0 other.1, tt)), tt))
 
-  -- what gains among known cubes has numbers of literals
+  -- what gains in known cubes has numbers of literals
   pub gaining_coded : (numbers : List (List ℕ)) (cubes : List Cube) → KnownCover names cubes → 0 < gains_of numbers (coded names cubes) → are_coded names numbers ≡ true
   unfolding gains_of
   gaining_coded numbers cubes all h = cases (over_pairs (sum_gain_of numbers) (coded names cubes)) refl
@@ -227,7 +228,7 @@ module _ (names : List (List ℕ)) (rising : AreRising names) where
       cases zero e = coded_product numbers cubes all (omega (arith, e, h))
       cases (suc n) e = coded_sum numbers cubes all (omega (arith, e))
 
--- the literals of a coded cover are as many as those of the cover
+-- a coded cover has as many literals as the cover
 pub codes_literals : (names : List (List ℕ)) (cover : NamedCover) → literals_in (coded names cover) ≡ sum_by length cover
 codes_literals names [] = refl
 codes_literals names (cube ∷ cover) =

@@ -1,4 +1,4 @@
--- Two lists compared pair by pair: what a loop that goes down both finds.
+-- Two lists compared pair by pair: what a loop along both finds.
 use Rattle.std.proofs.Common.{◌≡◌, ◌<◌, ◌≤◌, ◌+◌, ◌-◌, ℕ, suc, true, false, List, [], ◌∷◌, length, drop, drop-cons, get_or, Less, Equal, Greater, nat_cmp, refl, sym, ap, ap₂, ◌∙◌, arith}
 use Rattle.std.specs.Prelude.{min}
 use Rattle.std.specs.Cmp.{nat_cmp_is}
@@ -8,7 +8,7 @@ use Rattle.std.proofs.lemmas.Bool.{false≢true}
 use Rattle.std.proofs.lemmas.List.{length-drop}
 use Rattle.net_gains.specs.CodedGains.{numbers_cmp}
 
--- numbers that differ decide, and others leave it to what comes behind them
+-- numbers that differ decide, and others leave it to those after them
 decides : (order rest : Ordering) → is_ne order ≡ true → order ≡ ordering_then order rest
 decides Less rest h = refl
 decides Equal rest h = absurd (false≢true h)
@@ -35,7 +35,7 @@ module _ (xs ys : List ℕ) (i d e : ℕ) (lt : i < length xs) (under : i < leng
       ap (λ (n : ℕ). numbers_cmp (drop n xs) (drop n ys)) (let z : i + 1 ≡ suc i = omega arith in z)
       ∙ (defers order rest eq ∙ (ap (λ (o : Ordering). ordering_then o rest) is ∙ (pair ∙ h)))
 
--- at the end of the shorter one the lengths decide
+-- at the end of the shorter list the lengths decide
 pub found_last : (xs ys : List ℕ) (i : ℕ) → i ≤ length xs → i ≤ length ys → min (length xs) (length ys) ≤ i → numbers_cmp (drop i xs) (drop i ys) ≡ nat_cmp (length xs) (length ys)
 found_last xs ys i le under end = cases (drop i xs) (drop i ys) (length-drop i xs) (length-drop i ys)
   where

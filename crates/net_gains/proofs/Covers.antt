@@ -1,4 +1,5 @@
--- Covers that are the same, sorted covers of two cubes, and the two cubes that some cubes have beside what they share.
+-- Covers that are the same, sorted covers of two cubes, and the two cubes that some cubes have
+-- besides what they share.
 use Rattle.std.proofs.Common.{◌≡◌, ◌≢◌, ◌⊎◌, ℕ, ◌+◌, ◌-◌, Bool, true, false, not, ◌&&◌, cond, List, [], ◌∷◌, length, Ordering, Less, Equal, Greater, refl, sym, ap, ◌∙◌, subst, inl, inr, arith}
 use Rattle.std.specs.Cmp.{Equal-is}
 use Rattle.std.proofs.lemmas.Bool.{and_parts, and_from, false≢true, false_from_ne_true}
@@ -46,7 +47,7 @@ two_turned one other = sorted_same cube_order (one ∷ other ∷ []) (other ∷ 
     turned a b x (inr (inl e)) = inl e
     turned a b x (inr (inr n)) = absurd n
 
--- two cubes that are sorted alike are the same two
+-- two sums of two cubes that are sorted to the same list have the same cubes
 pub two_same : (one other first second : Cube) → (first ≡ second → ⊥) → sorted cube_cmp (one ∷ other ∷ []) ≡ sorted cube_cmp (first ∷ second ∷ [])
     → ((one ≡ first) × (other ≡ second)) ⊎ ((one ≡ second) × (other ≡ first))
 two_same one other first second apart e =
@@ -105,7 +106,7 @@ sum_differs names cover sum e =
     let (literal, m) = some_member sum.one sum.left in
     sum.disjoint literal m (subst (λ (cube : Cube). Has literal cube) e m)
 
--- and may be taken the other way about
+-- and they may be exchanged
 abbrev pub sum_turned : (names : List (List ℕ)) (cover : NamedCover) → IsSum names cover → IsSum names cover
 sum_turned names cover sum = record {
   one = sum.other;
@@ -118,9 +119,9 @@ sum_turned names cover sum = record {
   is = sum.is ∙ two_turned sum.one sum.other;
 }
 
--- ---- cubes that have a cover beside what they share
+-- ---- cubes that have a cover besides what they share
 
--- two cubes have the cover's two beside what they share
+-- two cubes have the cover's two besides what they share
 pub record ArePartners (cover : NamedCover) (one other : Cube) : Type 0 where
   pub left : own one other ≢ []
   pub right : own other one ≢ []
@@ -141,7 +142,7 @@ partners_pair cover one other are =
     (and_from (not (is_one (own one other))) (not (is_one (own other one))) (one_not (own one other) are.left) (one_not (own other one) are.right))
     (is_same_cover cover (sum_of_two one other) are.is)
 
--- what two cubes have beside each other is different
+-- what two cubes have besides each other differs
 pub own_differ : (one other : Cube) → own one other ≢ [] → own one other ≡ own other one → ⊥
 own_differ one other some e =
     let (literal, m) = some_member (own one other) some in

@@ -1,4 +1,4 @@
--- Numbers and the literals and cubes that they stand for, there and back.
+-- Numbers and their literals and cubes, and conversely.
 use Rattle.std.proofs.Common.{◌≡◌, ℕ, ◌+◌, ◌*◌, ◌/◌, ◌%◌, ◌<◌, Bool, true, false, List, [], ◌∷◌, map, length, get_or, nat_eq, refl, ap, ap₂, ◌∙◌, arith, ltb-true}
 use Rattle.std.proofs.lemmas.Bool.{and_parts, and_from}
 use Rattle.circuit_model.specs.Names.{has}

@@ -27,7 +27,7 @@ sum_lesser first second less h = cover_two first second h ∙ (sym (ap (λ (o : 
 pub sum_greater : (first second : List ℕ) → numbers_cmp first second ≡ Greater → is_one first ≡ false → cover_with second first ≡ sorted numbers_cmp (first ∷ second ∷ [])
 sum_greater first second greater h = cover_two second first h ∙ (sym (ap (λ (o : Ordering). put_by o first second [] (first ∷ [])) greater) ∙ sym (two_sorted first second))
 
--- by a test whether the second is less
+-- if a test says that the second is less
 pub sums_swapped : (first second : List ℕ) → is_lt (numbers_cmp second first) ≡ true → (divisor : Divisor) → divisor.first ≡ second → divisor.second ≡ first → Sums first second divisor
 sums_swapped first second less divisor one other = λ some more apart.
     ap₂ cover_with one other ∙ sum_greater first second (nat_list_cmp_total.antisymm first second ∙ ap ordering_reverse (is_less (numbers_cmp second first) less)) some

@@ -1,4 +1,5 @@
--- The totals when the parts of two lists of cubes go and come, without the products of literals that partners share.
+-- The totals when the cubes of one list are replaced by those of another one, without the products
+-- of literals that partners share.
 use Rattle.std.proofs.Common.{◌≡◌, ℕ, ◌+◌, ◌≤◌, true, List, sym, ap₂, ◌∙◌, arith}
 use Rattle.circuit_model.specs.Names.{all_different}
 use Rattle.net_gains.specs.CodedGains.{gains}

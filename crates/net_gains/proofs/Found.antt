@@ -1,4 +1,4 @@
--- What gains is a candidate: sums that are above 0 have an item that is, or a pair of items.
+-- What gains is a candidate: a sum above 0 has an item, or a pair of items, with a summand above 0.
 use Rattle.std.proofs.Common.{◌≡◌, ◌≢◌, ◌⊎◌, ℕ, ◌+◌, ◌<◌, ◌≤◌, zero, suc, Bool, true, false, cond, List, [], ◌∷◌, length, refl, ap, ◌∙◌, subst, inl, inr, arith}
 use Rattle.std.specs.List.{sum_by}
 use Rattle.std.proofs.lemmas.List.Sums.{sum_by-cons}
@@ -23,7 +23,7 @@ some_item {X} f (x ∷ xs) h = cases (f x) refl (some_item f xs)
     cases zero e rest = let (y, m, gain) = rest (omega (arith, h, e, sum_by-cons f x xs)) in (y, inr m, gain)
     cases (suc n) e rest = (x, inl refl, omega (arith, e))
 
--- a pair of items that gives more than nothing
+-- a pair of items with a summand above 0
 pub record SomePair {X : Type 0} (gain : X → X → ℕ) (xs : List X) : Type 0 where
   pub one : X
   pub other : X

@@ -1,4 +1,4 @@
--- Sets of cubes that stay where they are, and the cubes that are in them, cube by cube.
+-- Sets of borrowed cubes, and the cubes that are in them, cube by cube.
 use Rattle.std.proofs.Common.{◌≡◌, ℕ, ◌+◌, ◌<◌, suc, Bool, true, false, ◌||◌, not, cond, if◌then◌else◌, List, [], ◌∷◌, ◌++◌, length, get_or, take, drop, map, filter, bytes_eq, refl, sym, ap, ap₂, ◌∙◌, arith, drop-cons, append_assoc}
 use Rattle.std.specs.Borrow.{Bor}
 use Rattle.std.specs.List.{list_any}
@@ -23,7 +23,7 @@ has_more cubes cube query = list_any-append (λ (other : List ℕ). bytes_eq que
     by true = refl
     by false = refl
 
--- a cube that is put into a set
+-- a cube that is added to a set
 has_put : (keys more : List (Bor (List ℕ))) (key : Bor (List ℕ)) → more ≡ (if list_any (λ (other : Bor (List ℕ)). bytes_eq key.now other.now) keys then keys else keys ++ key ∷ [])
     → (query : List ℕ) → has (cubes_of more) query ≡ (has (cubes_of keys) query || bytes_eq query key.now)
 has_put keys more key e query = ap (λ (ks : List (Bor (List ℕ))). has (cubes_of ks) query) e ∙ cases (list_any (λ (other : Bor (List ℕ)). bytes_eq key.now other.now) keys) (held key.now keys)

@@ -1,4 +1,4 @@
--- What a search among rising names finds, and the literal of a number.
+-- What a search among sorted names finds, and the literal of a number.
 use Rattle.std.proofs.Common.{◌≡◌, ◌⊎◌, inl, inr, ltb, ltb-true, ltb-false, ℕ, ◌+◌, ◌*◌, ◌/◌, ◌%◌, ◌<◌, ◌≤◌, zero, suc, Bool, true, false, List, [], length, get_or, nat_eq, Less, Equal, Greater, is_lt, is_eq, refl, sym, ap, ap₂, ◌∙◌, subst, arith, lt-ltb, true≢false}
 use Rattle.std.specs.List.{HoldsAt}
 use Rattle.std.specs.List.Sorted.{IsNonDecreasingBy, IsPartitionPoint, IsSortedBy}

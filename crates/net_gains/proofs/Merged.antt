@@ -1,4 +1,4 @@
--- What two rising lists have beside each other, number by number.
+-- What each of two rising lists has besides the other, number by number.
 use Rattle.std.proofs.Common.{◌≡◌, ◌<◌, ◌+◌, ◌==◌, ◌≤◌, ◌⊎◌, inl, inr, get_or, drop-cons, ℕ, zero, suc, Bool, true, false, not, cond, ◌||◌, List, [], ◌∷◌, ◌++◌, ◌-◌, length, take, drop, Less, Equal, Greater, nat_cmp, refl, sym, ap, ap₂, ◌∙◌, subst, arith, append_assoc}
 use Rattle.std.specs.List.{AllByRecursion, list_any}
 use Rattle.std.specs.List.Sorted.{IsStrictlySortedBy}
@@ -10,7 +10,7 @@ use Rattle.std.proofs.lemmas.List.{length-drop}
 use Rattle.std.proofs.Math.Seq.{take-length}
 use Rattle.net_gains.specs.CodedGains.{own}
 
--- a number below all of a list stands not in it
+-- a number less than all of a list is not in it
 pub absent_below : (x : ℕ) (ys : List ℕ) → AllByRecursion (λ y. nat_cmp x y ≡ Less) ys → list_any (λ y. x == y) ys ≡ false
 absent_below x [] all = refl
 absent_below x (y ∷ ys) all =
@@ -24,7 +24,7 @@ below_through x y (z ∷ zs) lt all = (less, below_through x y zs lt all.1)
     less : nat_cmp x z ≡ Less
     less = let up : y < z = ranked y z Less (sym all.0) in sym (nat_cmp_is x z Less (omega (arith, lt, up)))
 
--- a number that one list has not is no number that the other one shares
+-- a number that a list lacks does not change what the list has besides another one
 pub own_skip : (x : ℕ) (ys xs : List ℕ) → list_any (λ y. x == y) ys ≡ false → own ys (x ∷ xs) ≡ own ys xs
 own_skip x [] xs none = refl
 own_skip x (y ∷ ys) xs none = cases (x == y) refl none (own_skip x ys xs)
@@ -43,7 +43,7 @@ own_kept x xs ys none = ap (λ (b : Bool). cond (not b) (x ∷ own xs ys) (own x
 pub own_gone : (x : ℕ) (xs ys : List ℕ) → list_any (λ y. x == y) ys ≡ true → own (x ∷ xs) ys ≡ own xs ys
 own_gone x xs ys some = ap (λ (b : Bool). cond (not b) (x ∷ own xs ys) (own xs ys)) some
 
--- the tail of a rising list rises, and its head is below it
+-- the tail of a rising list rises, and its head is less than all of it
 pub rises_tail : (x : ℕ) (xs : List ℕ) → IsStrictlySortedBy nat_cmp (x ∷ xs) → IsStrictlySortedBy nat_cmp xs
 unfolding IsStrictlySortedBy
 rises_tail x xs h = h.1
@@ -57,14 +57,14 @@ rises_drop xs zero h = h
 rises_drop [] (suc i) h = h
 rises_drop (x ∷ xs) (suc i) h = rises_drop xs i (rises_tail x xs h)
 
--- the lesser of two first numbers stands in its list alone
+-- the lesser of two first numbers is in its list alone
 pub own_less : (x y : ℕ) (xs ys : List ℕ) → nat_cmp x y ≡ Less → IsStrictlySortedBy nat_cmp (y ∷ ys)
     → (own (x ∷ xs) (y ∷ ys) ≡ x ∷ own xs (y ∷ ys)) × (own (y ∷ ys) (x ∷ xs) ≡ own (y ∷ ys) xs)
 own_less x y xs ys less rises =
     let none : list_any (λ z. x == z) (y ∷ ys) ≡ false = absent_below x (y ∷ ys) (less, below_through x y ys (ranked x y Less (sym less)) (rises_head y ys rises)) in
     (own_kept x xs (y ∷ ys) none, own_skip x (y ∷ ys) xs none)
 
--- a number that is first in both is neither's own
+-- a number that is first in both is in neither remainder
 pub own_same : (x y : ℕ) (xs ys : List ℕ) → nat_cmp x y ≡ Equal → IsStrictlySortedBy nat_cmp (x ∷ xs) → own (x ∷ xs) (y ∷ ys) ≡ own xs ys
 own_same x y xs ys same rises =
     let e : x ≡ y = ranked x y Equal (sym same) in
@@ -72,14 +72,14 @@ own_same x y xs ys same rises =
     own_gone x xs (y ∷ ys) there
     ∙ (ap (λ (n : ℕ). own xs (n ∷ ys)) (sym e) ∙ own_skip x xs ys (absent_below x xs (rises_head x xs rises)))
 
--- two numbers the other way round
+-- two numbers exchanged
 pub turned_less : (x y : ℕ) → nat_cmp x y ≡ Greater → nat_cmp y x ≡ Less
 turned_less x y h = nat_cmp_total.antisymm y x ∙ ap ordering_reverse h
 
 pub turned_same : (x y : ℕ) → nat_cmp x y ≡ Equal → nat_cmp y x ≡ Equal
 turned_same x y h = nat_cmp_total.antisymm y x ∙ ap ordering_reverse h
 
--- a loop that goes down both lists
+-- a loop along both lists
 pub merged_less : (xs ys whole made after : List ℕ) (i j d e : ℕ) → i < length xs → j < length ys → IsStrictlySortedBy nat_cmp ys → nat_cmp (get_or xs i d) (get_or ys j e) ≡ Less
     → after ≡ made ++ get_or xs i d ∷ [] → made ++ own (drop i xs) (drop j ys) ≡ whole → after ++ own (drop (i + 1) xs) (drop j ys) ≡ whole
 merged_less xs ys whole made after i j d e lt under rises less put h =
@@ -126,7 +126,7 @@ drop_past [] (suc n) le = refl
 drop_past (z ∷ zs) zero le = absurd (omega (arith, le))
 drop_past (z ∷ zs) (suc n) le = drop_past zs n (omega (arith, le))
 
--- what is left when one list is at its end
+-- what is left when one list has ended
 pub merged_all : (xs ys whole made after : List ℕ) (i j : ℕ) → (length xs ≤ i) ⊎ (length ys ≤ j) → after ≡ made ++ take (length xs - i) (drop i xs) → made ++ own (drop i xs) (drop j ys) ≡ whole → after ≡ whole
 merged_all xs ys whole made after i j end put h = put ∙ (ap (λ (zs : List ℕ). made ++ zs) (taken ∙ sym (left end)) ∙ h)
   where

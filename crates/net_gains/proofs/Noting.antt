@@ -77,7 +77,7 @@ divisor_told (a ∷ b ∷ c ∷ cover) = inr (λ other. none other.first other.s
     none first [] = never_greater (numbers_cmp a first)
     none first (number ∷ second) = never_then (numbers_cmp a first) (numbers_cmp b (number ∷ second))
 
--- the total of a cover is that of its divisor, or nothing
+-- the total of a cover is that of its divisor, or 0
 pub total_told : (entries : List (Divisor × ℕ)) (cover : List (List ℕ)) (divisor : Divisor) → Is cover divisor → total_of entries cover ≡ total_at entries divisor
 total_told entries cover divisor is = ap (λ (test : Divisor → Bool). unwrap_or (lookup test entries) 0) (λ i other. is other i)
 
@@ -86,7 +86,7 @@ total_none [] cover none = refl
 total_none (entry ∷ entries) cover none =
     ap (λ (b : Bool). unwrap_or (cond b (Some entry.1) (lookup (λ divisor. same_lists cover (cover_of divisor)) entries)) 0) (none entry.0) ∙ total_none entries cover none
 
--- nothing comes or goes
+-- a saving of 0 is added or subtracted
 pub changes_none : (change : Change) (total : ℕ) → Changes change total 0 total
 changes_none Comes total = omega arith
 changes_none Goes total = omega arith
@@ -114,7 +114,7 @@ divisor_of entries cover less = elim (divisor_told cover) as (λ _. (divisor : D
   | inr none ↦ (let zero : total_of entries cover ≡ 0 = total_none entries cover none in absurd (omega (arith, less, zero)))
 ]
 
--- a total that is set, where 0 stands for none
+-- a total that is set, where none counts as 0
 pub total_set : (b : Bool) (total : ℕ) (before : Option ℕ) → unwrap_or (cond b (Some total) before) 0 ≡ cond b total (unwrap_or before 0)
 total_set true total before = refl
 total_set false total before = refl
@@ -153,7 +153,7 @@ changed_totals change old new divisor before after saving was turned told cover 
         stays (total_of old cover) (total_of new cover) (cond (same_lists cover (cover_of divisor)) saving 0)
         (total_none old cover none ∙ sym (total_none new cover none)) (ap (λ (b : Bool). cond {A = ℕ} b saving 0) (none divisor))
 
--- what a divisor may lose
+-- how much may be subtracted from a divisor's total
 pub allowed_at : (change : Change) (entries : List (Divisor × ℕ)) (divisor : Divisor) (saving : ℕ) → AreAllowed change (total_of entries) (saved_by divisor saving) → Allows change (total_at entries divisor) saving
 allowed_at change entries divisor saving allowed =
     subst (Allows change (total_at entries divisor)) (ap (λ (b : Bool). cond {A = ℕ} b saving 0) (same_itself (cover_of divisor)))

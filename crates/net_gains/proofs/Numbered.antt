@@ -25,7 +25,7 @@ use Rattle.circuit_tables.proofs.Tidied.{row_same, row_itself}
 use Rattle.net_gains.specs.Kept.{is_countable}
 use Rattle.net_gains.specs.Numbers.{numbers_from, rising_from, AreNumbers}
 
--- ---- numbers place by place
+-- ---- numbers column by column
 
 from_cons : (signal : Signal) (signals : List Signal) (place : Option Bool) (row : List (Option Bool))
     → numbers_from (signal ∷ signals) (place ∷ row) ≡ numbers_from (signal ∷ []) (place ∷ []) ++ numbers_from signals row
@@ -40,7 +40,7 @@ from_none (signal ∷ signals) [] h = refl
 from_none (signal ∷ signals) (place ∷ row) (inl e) = absurd cc
 from_none (signal ∷ signals) (place ∷ row) (inr e) = absurd cc
 
--- a loop that puts the numbers of signals and places behind one another
+-- a loop that appends the numbers of signals and columns
 pub from_more : (signal : Signal) (place : Option Bool) (signals rest : List Signal) (row left : List (Option Bool)) (before after whole : List ℕ)
     → after ≡ before ++ numbers_from (signal ∷ []) (place ∷ []) → signals ≡ signal ∷ rest → row ≡ place ∷ left → before ++ numbers_from signals row ≡ whole → after ++ numbers_from rest left ≡ whole
 from_more signal place signals rest row left before after whole put first second h =
@@ -75,7 +75,8 @@ sorted_known names inputs row h = all_sorted (Known names) literal_cmp (cube_ove
 
 -- ---- tests on different lists
 
--- where lists are the same just when what they are made of is, they are all different just when that is
+-- if images are the same exactly if their originals are, images are all different exactly if their
+-- originals are
 module _ {X : Type 0} (same : X → X → Bool) (f : X → List ℕ) (P : X → Type 0) (agree : (x y : X) → P x → P y → bytes_eq (f x) (f y) ≡ same x y) where
   has_alike : (x : X) (xs : List X) → P x → AllByRecursion P xs → has (map f xs) (f x) ≡ list_any (same x) xs
   has_alike x [] it all = refl

@@ -37,7 +37,7 @@ has_kept test (first ∷ xs) x m h = cases (test first) refl m (λ k. has_kept t
     cases true e k more = elim k as (λ _. Has x (first ∷ filter test xs)) [ inl same ↦ inl same | inr n ↦ inr (more n) ]
     cases false e k more = elim k as (λ _. Has x (filter test xs)) [ inl same ↦ absurd (false≢true (sym e ∙ ap test (sym same) ∙ h)) | inr n ↦ more n ]
 
--- ---- items that stand once
+-- ---- items that occur once
 
 abbrev pub AreOnce : {X : Type 0} → List X → Type 0
 AreOnce [] = Unit {0}
@@ -93,7 +93,7 @@ pub record AreSame {X : Type 0} (xs ys : List X) : Type 0 where
   pub there : (x : X) → Has x xs → Has x ys
   pub back : (x : X) → Has x ys → Has x xs
 
--- without one item they are still the same
+-- after one item is removed they are still the same
 rest_same : {X : Type 0} (x : X) (xs before after : List X) → AreSame (x ∷ xs) (before ++ x ∷ after) → AreSame xs (before ++ after)
 rest_same {X} x xs before after same =
     let parts = around x before after same.other_once in
@@ -123,7 +123,7 @@ sum_same {X} f (x ∷ xs) ys same =
     let rest : sum_by f xs ≡ sum_by f (before ++ after) = sum_same f xs (before ++ after) (rest_same x xs before after whole) in
     sum_by-cons f x xs ∙ (ap (λ (n : ℕ). f x + n) rest ∙ (sym (sum_around f x before after) ∙ ap (sum_by f) (sym e)))
 
--- a value that no order of its two items changes
+-- a value that does not depend on the order of its two items
 abbrev pub IsEven : {X : Type 0} → (X → X → ℕ) → List X → Type 0
 IsEven {X} gain xs = (x y : X) → Has x xs → Has y xs → gain x y ≡ gain y x
 
@@ -152,7 +152,7 @@ pairs_same {X} gain (x ∷ xs) ys same even =
     ∙ (sym (pairs_around gain x before after (λ y m. balanced y x (has_left y before (x ∷ after) m) (has_right x before (x ∷ after) (inl refl))))
     ∙ ap (over_pairs gain) (sym e))
 
--- ---- one list behind another
+-- ---- one list after another
 
 pub pairs_append : {X : Type 0} (gain : X → X → ℕ) (xs ys : List X) → over_pairs gain (xs ++ ys) ≡ over_pairs gain xs + (sum_by (λ x. sum_by (gain x) ys) xs + over_pairs gain ys)
 unfolding over_pairs

@@ -1,4 +1,5 @@
--- What two cubes share, and what one has beside the other, place by place over names: the product of both is the cube again.
+-- What two cubes share, and what one has besides the other, column by column over names: the
+-- product of both is the cube.
 use Rattle.std.proofs.Common.{◌≡◌, ℕ, zero, suc, Bool, true, false, not, ◌&&◌, ◌||◌, cond, Option, Some, None, List, [], ◌∷◌, map, filter, bytes_eq, refl, sym, ap, ap₂, ◌∙◌, subst}
 use Rattle.std.specs.Bool.{beq}
 use Rattle.std.specs.List.{list_any}
@@ -15,19 +16,19 @@ use Rattle.cover_names.proofs.Back.{literal_of_none}
 use Rattle.cover_names.proofs.Worth.{names_of, literal_of_cons}
 use Rattle.alg_tables.proofs.Divisions.{AreApart}
 
--- ---- places
+-- ---- columns
 
--- a literal that a test leaves, else a dash
+-- a literal that passes a test, else a dash
 abbrev pub kept_place : (Bool → Bool) → Option Bool → Option Bool
 kept_place test None = None
 kept_place test (Some bit) = cond (test bit) (Some bit) None
 
--- whether a place has the literal of a bit
+-- whether a column has the literal of a bit
 abbrev pub stands : Option Bool → Bool → Bool
 stands None bit = false
 stands (Some other) bit = beq bit other
 
--- what two places have in common, and what the first has beside the second
+-- what two columns have in common, and what the first has besides the second
 abbrev pub common : Option Bool → Option Bool → Option Bool
 common place other = kept_place (stands other) place
 
@@ -74,7 +75,7 @@ second_apart (Some true) (Some false) bit e = refl
 second_apart (Some false) (Some true) bit e = refl
 second_apart (Some false) (Some false) bit e = none_some bit e
 
--- a place that has the other's literal, where it has one
+-- a column that has the other's literal, if that has one
 pub inner_product : (place other : Option Bool) → ((bit : Bool) → other ≡ Some bit → place ≡ Some bit) → literal_product (beside place other) other ≡ place
 inner_product None None h = refl
 inner_product (Some b) None h = refl
@@ -105,7 +106,7 @@ is_standing place bit e = ap (λ (p : Option Bool). stands p bit) e ∙ itself b
     itself true = refl
     itself false = refl
 
--- ---- the literals of a cube that a test leaves
+-- ---- the literals of a cube that pass a test
 
 -- the literal of a name and a bit
 literal_from : List ℕ → Bool → Literal
@@ -160,7 +161,7 @@ any_at (literal ∷ cube) name bit apart =
         ∙ (or-false (beq bit literal.bit) ∙ sym (ap (λ (b : Bool). stands (cond b (Some literal.bit) (literal_of cube name)) bit) (name_is literal.name name (sym same))))
     cases false e rest = rest ∙ sym (ap (λ (b : Bool). stands (cond b (Some literal.bit) (literal_of cube name)) bit) (name_turned name literal.name e))
 
--- ---- rows over names, place by place
+-- ---- rows over names, column by column
 
 times_made : (f g h : List ℕ → Option Bool) (names : List (List ℕ)) → ((name : List ℕ) → literal_product (f name) (g name) ≡ h name) → times (map f names) (map g names) ≡ map h names
 unfolding times
@@ -185,7 +186,7 @@ module _ (names : List (List ℕ)) (one other : Cube) (first : all_different (na
       kept_literal (λ (literal : Literal). not (list_any (same_literal literal) other)) one name first
       ∙ kept_alike (λ bit. not (list_any (same_literal (literal_from name bit)) other)) (λ bit. not (stands (literal_of other name) bit)) (literal_of one name) (λ bit. ap not (any_at other name bit second))
 
-  -- what both share, times what the first has beside the second, is the first
+  -- what both share, times what the first has besides the second, is the first
   pub times_own : times (row_over names (shared one other)) (row_over names (own one other)) ≡ row_over names one
   times_own =
       times_made (literal_of (shared one other)) (literal_of (own one other)) (literal_of one) names
@@ -196,7 +197,8 @@ module _ (names : List (List ℕ)) (one other : Cube) (first : all_different (na
       rows_apart (literal_of (shared one other)) (literal_of (own one other)) names
       (λ name bit e. shared_at name ∙ first_apart (literal_of one name) (literal_of other name) bit (sym (own_at name) ∙ e))
 
-  -- where the first has the literals of the second, what it has beside them, times the second, is the first
+  -- if the first has the literals of the second, what it has besides them, times the second, is the
+  -- first
   pub times_inner : ((name : List ℕ) (bit : Bool) → literal_of other name ≡ Some bit → literal_of one name ≡ Some bit)
       → times (row_over names (own one other)) (row_over names other) ≡ row_over names one
   times_inner h =
@@ -209,7 +211,7 @@ module _ (names : List (List ℕ)) (one other : Cube) (first : all_different (na
       (λ name bit e. own_at name ∙ inner_apart (literal_of one name) (literal_of other name) (h name) bit e)
 
 module _ (names : List (List ℕ)) (one other : Cube) (first : all_different (names_of one) ≡ true) (second : all_different (names_of other) ≡ true) where
-  -- what both share, times what the second has beside the first, is the second
+  -- what both share, times what the second has besides the first, is the second
   pub times_others_own : times (row_over names (shared one other)) (row_over names (own other one)) ≡ row_over names other
   times_others_own =
       times_made (literal_of (shared one other)) (literal_of (own other one)) (literal_of other) names

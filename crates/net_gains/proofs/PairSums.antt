@@ -1,5 +1,5 @@
--- Sums over items, and over pairs of items with the earlier one first: items and pairs that pass a test have a key, and where each key comes
--- of one of them only, the sum is one over the keys.
+-- Sums over items, and over pairs of items with the earlier one first: items and pairs that pass a
+-- test have a key, and if each key is that of only one of them, the sum is one over the keys.
 use Rattle.std.proofs.Common.{◌≡◌, ◌⊎◌, ℕ, ◌+◌, Bool, true, false, cond, List, [], ◌∷◌, ◌++◌, map, filter, length, refl, sym, ap₂, ◌∙◌, subst, inl, inr, arith}
 use Rattle.std.specs.List.{sum_by}
 use Rattle.std.proofs.lemmas.List.Sums.{sum_by-cons, sum_by-append}
@@ -9,7 +9,7 @@ use Rattle.net_candidates.proofs.Sums.{sum_mapped, AreOnce, once_kept, once_mapp
 use Rattle.net_gains.specs.Gains.{over_pairs}
 use Rattle.alg_tables.proofs.Quotients.{kept_has, has_kept, image_has}
 
--- ---- sums of nothing, of ones and of images
+-- ---- sums of zeros, of ones and of images
 
 pub sum_none : {X : Type 0} (f : X → ℕ) (xs : List X) → ((x : X) → Has x xs → f x ≡ 0) → sum_by f xs ≡ 0
 sum_none f [] h = refl
@@ -37,7 +37,7 @@ abbrev pub Before : {X : Type 0} → X → X → List X → Type 0
 Before one other [] = ⊥
 Before one other (item ∷ items) = ((one ≡ item) × Has other items) ⊎ Before one other items
 
--- of two items one comes first
+-- of two items one is before the other
 pub one_before : {X : Type 0} (one other : X) (xs : List X) → Has one xs → Has other xs → (one ≡ other → ⊥) → Before one other xs ⊎ Before other one xs
 one_before one other [] m n apart = absurd m
 one_before one other (x ∷ xs) (inl e) (inl k) apart = absurd (apart (e ∙ sym k))
@@ -79,7 +79,7 @@ module _ {X Q : Type 0} (test : X → Bool) (key : X → Q) where
       cases true e rest = omega (arith, e, rest, sum_by-cons f x xs, sum_by-cons weight (key x) (keys xs))
       cases false e rest = omega (arith, e, rest, sum_by-cons f x xs)
 
-  -- the sum over the items is the sum over just their keys
+  -- the sum over the items is the sum over exactly their keys
   pub items_are : (f : X → ℕ) (weight : Q → ℕ) (xs : List X) (cs : List Q) → AreOnce xs → AreOnce cs
       → ((x : X) → Has x xs → f x ≡ cond {A = ℕ} (test x) (weight (key x)) 0)
       → ((x y : X) → Has x xs → Has y xs → test x ≡ true → test y ≡ true → key x ≡ key y → x ≡ y)
@@ -94,7 +94,7 @@ module _ {X Q : Type 0} (test : X → Bool) (key : X → Q) where
 
 -- ---- keys of pairs
 
--- two items are a left and a right one, or the other way about
+-- two items are a left and a right one, or conversely
 abbrev pub AreTold : {X : Type 0} → X → X → X → X → Type 0
 AreTold left right x y = ((x ≡ left) × (y ≡ right)) ⊎ ((x ≡ right) × (y ≡ left))
 
@@ -158,7 +158,7 @@ module _ {X Q : Type 0} (test : X → X → Bool) (key : X → X → Q) where
           | inr b ↦ once.0 (subst (λ (z : X). Has z xs) (sym b) second)
         ])
 
-    -- the sum over the pairs is the sum over just their keys
+    -- the sum over the pairs is the sum over exactly their keys
     pub pairs_are : (gain : X → X → ℕ) (weight : Q → ℕ) (xs : List X) (cs : List Q) → AreOnce xs → AreOnce cs
         → ((x y : X) → Has x xs → Has y xs → gain x y ≡ cond {A = ℕ} (test x y) (weight (key x y)) 0)
         → ((x y : X) → Has x xs → Has y xs → test x y ≡ true → AreTold (left (key x y)) (right (key x y)) x y)

@@ -1,4 +1,4 @@
--- What products save of cubes beside partners: those of two shared literals are left alone.
+-- What products save in cubes besides partners: those of two shared literals are left out.
 use Rattle.std.proofs.Common.{◌≡◌, ◌<◌, ◌≤◌, ◌+◌, ◌==◌, ℕ, zero, suc, Bool, true, false, not, cond, List, [], ◌∷◌, ◌++◌, length, drop, get_or, drop-cons, filter, map, Less, nat_cmp, refl, sym, ap, ap₂, ◌∙◌, inl, inr, arith}
 use Rattle.std.specs.List.{sum_by, list_any, AllByRecursion}
 use Rattle.std.specs.List.Sorted.{IsStrictlySortedBy}
@@ -60,7 +60,7 @@ filter_told : (test also : ℕ → Bool) (xs : List ℕ) → ((x : ℕ) → Has 
 filter_told test also [] told = refl
 filter_told test also (x ∷ xs) told = ap₂ (λ (b : Bool) (ys : List ℕ). cond b (x ∷ ys) ys) (told x (inl refl)) (filter_told test also xs (λ y m. told y (inr m)))
 
--- what a cube has beside its own part is what it shares
+-- what a cube has besides its own part is what it shares
 pub own_own : (one other : List ℕ) → own one (own one other) ≡ shared one other
 own_own one other = filter_told (λ x. not (list_any (λ y. x == y) (own one other))) (λ x. list_any (λ y. x == y) other) one (λ x m. told x m (list_any (λ y. x == y) other) refl)
   where
@@ -102,14 +102,14 @@ products_split cover one other rises =
     risen cover (shared one other) (rises_kept (λ x. list_any (λ y. x == y) other) one rises) in
     omega (arith, whole, moved, split, left)
 
--- the two parts of what is noted of a cube
+-- the two parts of what is counted of a cube
 pub own_products_split : (cover : List (List ℕ)) (one other ours mine both : List ℕ) → ours ≡ own one other → mine ≡ own one other → both ≡ own one (own one other)
     → own_products cover one other ≡ over_pairs (either_gain cover) ours + sum_by (λ number. sum_by (either_gain cover number) both) mine
 own_products_split cover one other ours mine both ours_is mine_is both_is =
     ap₂ (λ (m n : ℕ). m + n) (ap (over_pairs (either_gain cover)) (sym ours_is))
     (ap₂ (λ (xs ys : List ℕ). sum_by (λ number. sum_by (either_gain cover number) ys) xs) (sym mine_is) (sym (both_is ∙ own_own one other)))
 
--- ---- cubes beside partners
+-- ---- cubes besides partners
 
 -- what products save of which both literals are shared
 unfoldable pub left_out : List (List ℕ) → List (List ℕ) → List (List ℕ) → ℕ

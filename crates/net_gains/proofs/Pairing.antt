@@ -11,7 +11,7 @@ use Rattle.net_gains.specs.CodedGains.{own, shared, numbers_cmp, same_lists, sum
 use Rattle.net_gains.specs.Turning.{saved_by}
 use Rattle.net_gains.specs.declared.divisor.Divisor.{Divisor}
 
--- what is first of those that pass a test
+-- the first of those that pass a test
 first_passed : (test : ℕ → Bool) (xs : List ℕ) (x : ℕ) (rest : List ℕ) → filter test xs ≡ x ∷ rest → (test x ≡ true) × (list_any (λ y. x == y) xs ≡ true)
 first_passed test [] x rest h = absurd cc
 first_passed test (y ∷ xs) x rest h = cases (test y) refl h (first_passed test xs x rest)
@@ -27,7 +27,7 @@ first_passed test (y ∷ xs) x rest h = cases (test y) refl h (first_passed test
         (ap test (sym same) ∙ e, ap (λ (b : Bool). b || list_any (λ z. x == z) xs) (eq-eqb x y (sym same)))
     cases false e k more = let found = more k in (found.0, ap (λ (b : Bool). (x == y) || b) found.1 ∙ later (x == y))
 
--- what each of two lists has beside the other differs
+-- what each of two lists has besides the other differs
 pub own_apart : (xs ys : List ℕ) → is_one (own xs ys) ≡ false → numbers_cmp (own xs ys) (own ys xs) ≡ Equal → ⊥
 own_apart xs ys some same = cases (own xs ys) refl some
   where
@@ -81,7 +81,7 @@ unfolding product_gain
 product_saved cover one other divisor is = ap (λ (c : List (List ℕ)). cond {A = ℕ} (same_lists cover c) 1 0) is
 
 module _ {X : Type 0} where
-  -- the first of a rest with the others
+  -- the first of a remainder with the others
   pub sum_next : (f : X → ℕ) (xs : List X) (i : ℕ) (d x : X) → i < length xs → x ≡ get_or xs i d → sum_by f (drop i xs) ≡ f x + sum_by f (drop (i + 1) xs)
   sum_next f xs i d x lt is =
       ap (sum_by f) (drop-cons xs i d lt)
@@ -107,11 +107,11 @@ module _ {X : Type 0} where
   pairs_past f (x ∷ xs) (suc i) le = pairs_past f xs i (omega (arith, le))
 
 module _ {X : Type 0} where
-  -- the part of a list behind a place
+  -- the part of a list from an index on
   pub rest_is : (xs : List X) (i : ℕ) → take (length xs - i) (drop i xs) ≡ drop i xs
   rest_is xs i = take_all (length xs - i) (drop i xs) (let long : length (drop i xs) ≡ length xs - i = length-drop i xs in omega (arith, long))
 
-  -- all items behind a place
+  -- all items from an index on
   items_past : (P : X → Type 0) (xs : List X) (i : ℕ) → AllByRecursion P xs → AllByRecursion P (drop i xs)
   items_past P xs zero all = all
   items_past P [] (suc i) all = all

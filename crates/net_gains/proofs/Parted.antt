@@ -1,4 +1,4 @@
--- What cubes save together, in whichever order they stand, and parted into two.
+-- What cubes save together, in any order, and split into two lists.
 use Rattle.std.proofs.Common.{◌≡◌, ℕ, ◌+◌, ◌-◌, ◌==◌, Bool, true, false, ◌&&◌, not, cond, List, [], ◌∷◌, ◌++◌, length, filter, Contains, bytes_eq, Less, nat_cmp, eq-eqb, eqb-true, refl, sym, ap, ap₂, ◌∙◌, subst, inl, inr, arith}
 use Rattle.std.specs.List.{sum_by, list_any, AllByRecursion}
 use Rattle.std.specs.List.Sorted.{IsStrictlySortedBy}
@@ -148,7 +148,7 @@ cubes_kept test (cube ∷ cubes) all = cases (test cube) (cubes_kept test cubes 
     cases true rest = (all.0, rest)
     cases false rest = rest
 
--- cubes are those that are not among others, and all that are
+-- cubes are those that are not among others, and those that are
 parted_same : (old new cubes others : List (List ℕ)) → AreOnce old → AreOnce cubes → ((cube : List ℕ) → Has cube (among new old) → Has cube cubes)
     → ((cube : List ℕ) → Has cube cubes → has others cube ≡ true → Has cube (among new old)) → ((cube : List ℕ) → Has cube (among new old) → Has cube others)
     → AreSame cubes (apart others cubes ++ among new old)

@@ -1,4 +1,5 @@
--- Places of names in a list: below its length, each name at its own; in a rising list in the order of the names.
+-- Positions of names in a list: less than its length, each name at its own; in a rising list in the
+-- order of the names.
 use Rattle.std.proofs.Common.{◌≡◌, ℕ, ◌+◌, ◌*◌, ◌<◌, zero, suc, Bool, true, false, List, [], ◌∷◌, length, get_or, bytes_eq, Ordering, Less, Equal, Greater, nat_cmp, refl, sym, ap, ap₂, ◌∙◌, subst, arith}
 use Rattle.std.specs.Cmp.{nat_cmp_is}
 use Rattle.std.specs.Ordering.{bool_cmp, ordering_then, ordering_reverse}
@@ -14,7 +15,7 @@ use Rattle.alg_tables.proofs.Divided.{name_order}
 use Rattle.circuit_tables.proofs.Once.{place_within}
 use Rattle.net_gains.specs.Codes.{name_cmp, AreRising, place_of, bit_number, code_of}
 
--- ---- places of names
+-- ---- positions of names
 
 pub name_at_place : (names : List (List ℕ)) (name other : List ℕ) → has names name ≡ true → get_or names (place_of names name) other ≡ name
 name_at_place names name other h =
@@ -26,7 +27,7 @@ has_at_place (first ∷ names) zero other h = or_left (bytes_eq first first) (ha
 has_at_place (first ∷ names) (suc place) other h = or_right (bytes_eq (get_or names place other) first) _ (has_at_place names place other (omega arith))
 
 module _ (names : List (List ℕ)) (rising : AreRising names) where
-  -- names at different places of a rising list are in the order of the places
+  -- names at different positions of a rising list are in the order of the positions
   at_places : (one other : ℕ) → one < length names → other < length names → name_cmp (get_or names one []) (get_or names other []) ≡ nat_cmp one other
   at_places one other low high = cases (nat_cmp one other) refl
     where

@@ -1,4 +1,5 @@
--- Products of two literals: the rows that have both are the products of the quotient's cubes and the two literals.
+-- Products of two literals: the rows that have both are the products of the quotient's cubes and
+-- the two literals.
 use Rattle.std.proofs.Common.{◌≡◌, ℕ, Bool, true, false, ◌&&◌, cond, Option, Some, List, [], ◌∷◌, map, length, Less, refl, sym, ap, ◌∙◌, subst, inl, inr}
 use Rattle.std.specs.List.{sum_by}
 use Rattle.std.proofs.lemmas.Bool.{and_parts, and_from, false≢true}
@@ -32,7 +33,7 @@ use Rattle.alg_tables.proofs.Divided.{rows_wide}
 use Rattle.alg_tables.proofs.Divisions.{AreApart}
 use Rattle.alg_tables.proofs.Quotients.{all_test}
 
--- in a cube that rises what comes first is below what comes later
+-- in a rising cube what comes first is less than what comes later
 before_below : (cube : Cube) (one other : Literal) → Rising cube → Before one other cube → literal_cmp one other ≡ Less
 before_below [] one other h m = absurd m
 before_below (literal ∷ cube) one other h m =
@@ -41,7 +42,7 @@ before_below (literal ∷ cube) one other h m =
       | inr n ↦ before_below cube one other (rises_tail literal_order literal cube h) n
     ]
 
--- a literal of a cube stands at its name
+-- a literal of a cube is found by its name
 member_at : (cube : Cube) (literal : Literal) → all_different (names_of cube) ≡ true → Has literal cube → literal_of cube literal.name ≡ Some literal.bit
 member_at cube literal apart m = all_member (λ (x : Literal). literal_of cube x.name ≡ Some x.bit) cube (literals_stand cube apart) literal m
 
@@ -75,7 +76,8 @@ module _ (one other : Literal) where
   unfolding product_gain
   gain_is first second = refl
 
-  -- the gains of a cube are as many as a list that has the first literal where the cube has both
+  -- the gains of a cube are the length of a list that has the first literal exactly if the cube has
+  -- both
   counted : (cube : Cube) (found : List Literal) → Rising cube → AreOnce found
       → ((first second : Literal) → Has first cube → Has second cube → same_cover both ((first ∷ second ∷ []) ∷ []) ≡ true → Has one found)
       → ((literal : Literal) → Has literal found → (literal ≡ one) × Before one other cube)
@@ -130,7 +132,7 @@ module _ (one other : Literal) where
     row_gains below row = cube_gains below (cube_of names row) (sorted_rises literal_order (cube_over names row)) (cube_among names row once).apart
 
     module _ (rows : List (List (Option Bool))) (wide : HasWidth (length names) rows) (proper : IsProperCube names (one ∷ other ∷ [])) where
-      -- what a row has beside both literals
+      -- what a row has besides both literals
       abbrev key : List (Option Bool) → List (Option Bool)
       key row = row_over names (own (cube_of names row) (one ∷ other ∷ []))
 
@@ -172,7 +174,8 @@ module _ (one other : Literal) where
         to : (row : List (Option Bool)) → Has row rows → has_both (cube_of names row) ≡ true → Has (key row) q
         to row m h = quotient_every (length names) rows divisor q is (row_over names (one ∷ other ∷ [])) (inl refl) (key row) (term row m h)
 
-        -- the product of a cube of the quotient and both literals is a row with both, and the cube what it has beside them
+        -- the product of a cube of the quotient and both literals is a row with both, and the cube
+        -- what it has besides them
         made : (cube : List (Option Bool)) → Has cube q → (row : List (Option Bool)) × Has row rows × (has_both (cube_of names row) ≡ true) × (key row ≡ cube)
         made cube among =
             let at = quotient-terms (length names) rows divisor q is cube among in
@@ -190,7 +193,7 @@ module _ (one other : Literal) where
                   (to row here h) among (inl refl) (inl refl) (key_made row here h)).0,
             )
 
-        -- the gains of a product, where no row stands twice
+        -- the gains of a product, if no row occurs twice
         pub product_rows : literal_cmp one other ≡ Less → AreOnce rows → sum_by (λ row. over_pairs (product_gain both) (cube_of names row)) rows ≡ length q
         product_rows below rows_once =
             items_are (λ row. has_both (cube_of names row)) key (λ row. over_pairs (product_gain both) (cube_of names row)) (λ row. 1) rows q rows_once

@@ -1,4 +1,4 @@
--- Cubes of rows, and cubes of quotients: what stands in a quotient, and how many literals a row has.
+-- Cubes of rows, and cubes of quotients: what is in a quotient, and how many literals a row has.
 use Rattle.std.proofs.Common.{◌≡◌, ℕ, ◌+◌, ◌*◌, ◌-◌, ◌≤◌, Bool, true, Option, List, [], ◌∷◌, length, ◌∙◌, arith}
 use Rattle.std.specs.List.{sum_by}
 use Rattle.std.proofs.lemmas.List.Sums.{sum_by-cons}
@@ -29,12 +29,12 @@ cube_among names row once = record {
 pub among_literals : (names : List (List ℕ)) (cube : Cube) → all_different names ≡ true → IsAmong names cube → row_literals (row_over names cube) ≡ length cube
 among_literals names cube once among = row_over_literals names cube once among.apart among.over
 
--- where a divisor has a row, each term is in the quotient
+-- if a divisor has a row, each term is in the quotient
 pub quotient_every : (width : ℕ) (f d q : List (List (Option Bool))) → IsQuotient width f d q → (k : List (Option Bool)) → Has k d → (cube : List (Option Bool)) → IsTerm width f d cube → Has cube q
 quotient_every width f [] q is k m cube term = absurd m
 quotient_every width f (first ∷ d) q is k m cube term = is.every cube term
 
--- the sum over rows of their literals and so many more but one
+-- the sum over rows of their literals and a number, less one
 pub sum_more : (more : ℕ) (rows : List (List (Option Bool))) → 1 ≤ more
     → sum_by (λ row. row_literals row + more - 1) rows + length rows ≡ literals_in_all rows + length rows * more
 sum_more more [] some = let z : 0 ≡ 0 + 0 * more = omega arith in z

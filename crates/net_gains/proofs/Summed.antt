@@ -1,4 +1,4 @@
--- Tables that come and change, and the totals of what they save together.
+-- Tables that are added and change, and the totals of what they save together.
 use Rattle.std.proofs.Common.{◌≡◌, ℕ, ◌+◌, ◌<◌, ◌≤◌, zero, suc, List, [], ◌∷◌, ◌++◌, length, get_or, sym, ap, subst, arith}
 use Rattle.std.specs.List.{AllByRecursion, sum_by}
 use Rattle.std.proofs.Math.ListN.{set}

@@ -1,4 +1,5 @@
--- Sums of two cubes: the pairs of rows with a gain are the products of the quotient's cubes, and each cube comes of one pair.
+-- Sums of two cubes: the pairs of rows with a gain are the products of the quotient's cubes, and
+-- each cube is that of one pair.
 use Rattle.std.proofs.Common.{◌≡◌, ◌≢◌, ◌⊎◌, ℕ, ◌+◌, ◌-◌, Bool, true, cond, Option, List, [], ◌∷◌, map, length, refl, sym, ap, ap₂, ◌∙◌, subst, inl, inr}
 use Rattle.std.specs.List.{sum_by, list_all}
 use Rattle.std.proofs.lemmas.Bool.{and_from}
@@ -51,7 +52,7 @@ module _ (names : List (List ℕ)) (once : all_different names ≡ true) (rows :
   back : (row : List (Option Bool)) → Has row rows → row_over names (cube_of names row) ≡ row
   back row m = sorted_row_back names row once (width-has (length names) rows row wide m)
 
-  -- with what each has beside it, it is the rows
+  -- the product of this and what it has besides is the row
   first_made : (one other : List (Option Bool)) → Has one rows → times (key one other) (row_over names (own (cube_of names one) (cube_of names other))) ≡ one
   first_made one other m = times_own names (cube_of names one) (cube_of names other) (cube_among names one once).apart (cube_among names other once).apart ∙ back one m
 
@@ -68,7 +69,7 @@ module _ (names : List (List ℕ)) (once : all_different names ≡ true) (rows :
       Has-map (row_over names) sum.other cover (subst (λ (x : NamedCover). Has sum.other x) (sym sum.is) (has_second sum.one sum.other)),
     )
 
-    -- a row of the divisor is what one of two partners has beside the other
+    -- a row of the divisor is what one of two partners has besides the other
     either : (one other k : List (Option Bool)) → ArePartners cover (cube_of names one) (cube_of names other) → Has k divisor
         → (k ≡ row_over names (own (cube_of names one) (cube_of names other))) ⊎ (k ≡ row_over names (own (cube_of names other) (cube_of names one)))
     either one other k are m =
@@ -167,7 +168,7 @@ module _ (names : List (List ℕ)) (once : all_different names ≡ true) (rows :
           ∙ ap (λ (n : ℕ). cond {A = ℕ} (is_pair cover (cube_of names one) (cube_of names other)) (n + literals_in cover - 1) 0)
           (sym (among_literals names (shared (cube_of names one) (cube_of names other)) once (among_filtered names _ (cube_of names one) (cube_among names one once))))
 
-      -- the gains of a sum, where no row stands twice
+      -- the gains of a sum, if no row occurs twice
       pub sum_pairs : IsSum names cover → AreOnce rows
           → over_pairs (λ one other. sum_gain cover (cube_of names one) (cube_of names other)) rows ≡ sum_by (λ row. row_literals row + literals_in cover - 1) q
       sum_pairs sum rows_once =

@@ -1,4 +1,5 @@
--- The gains of a table: by its rows, by the quotient, and so what the table loses when it is divided.
+-- The gains of a table: by its rows, by the quotient, and so what the table loses when it is
+-- divided.
 use Rattle.std.proofs.Common.{◌≡◌, ℕ, ◌+◌, ◌*◌, ◌-◌, ◌≤◌, Bool, true, false, not, cond, Option, List, [], ◌∷◌, map, length, Less, refl, sym, ap, ap₂, ◌∙◌, subst, inl, inr, arith}
 use Rattle.std.specs.List.{sum_by, list_all, list_any, AllByRecursion}
 use Rattle.std.proofs.lemmas.Bool.{and_parts, or_left, or_right, not-true, false≢true, false_from_ne_true}
@@ -43,7 +44,7 @@ use Rattle.alg_tables.proofs.Quotients.{firsts_has, has_firsts, all_test, quotie
 use Rattle.circuit_tables.specs.Tidy.{same_row, rows_differ}
 use Rattle.circuit_tables.proofs.Tidied.{row_itself}
 
--- ---- rows that differ stand once
+-- ---- rows that differ occur once
 
 any_row : (row : List Tri) (rows : List (List Tri)) → Has row rows → list_any (same_row row) rows ≡ true
 any_row row [] m = absurd m
@@ -109,7 +110,8 @@ no_pair_sum cover names rows alone =
 
 -- ---- gains by the quotient
 
--- of a table that reads what a cover reads, gains are what its quotient saves; of another one they are none
+-- for a table that reads what a cover reads the gains are what its quotient saves; for another one
+-- they are 0
 record AreGains (cover : NamedCover) (names : List (List ℕ)) (rows q : List (List (Option Bool))) : Type 0 where
   inside : is_over names cover ≡ true
       → pair_sum cover names rows + row_sum cover names rows + (literals_in_all q + length q) ≡ length cover * literals_in_all q + length q * literals_in cover

@@ -1,4 +1,4 @@
--- What is kept after a table came or changed: the names, and the cubes that the numbers stand for.
+-- The names and the cubes that are kept after a table was added or changed.
 use Rattle.std.proofs.Common.{◌≡◌, ℕ, Bool, true, false, ◌||◌, List, [], ◌∷◌, ◌++◌, map, bytes_eq, refl, sym, ap, ◌∙◌, subst, inl, inr}
 use Rattle.std.specs.List.{AllByRecursion}
 use Rattle.std.proofs.Math.ListN.{set}
@@ -44,7 +44,7 @@ has_in_order names name =
     decided (has (in_order names) name) (has names name) (λ h. told_has names name (sorted_has name_order names name (has_told (in_order names) name h)))
     (λ h. told_has (in_order names) name (sorted_keeps name_order names name (has_told names name h)))
 
--- ---- tables that came or changed
+-- ---- tables that were added or changed
 
 module _ (names : List (List ℕ)) (old taken new : Counted) (is : IsKept names old) (moved : taken ≡ old) (counted : IsCounted new) (table : Table) (cubes : List (List ℕ)) (are : AreNumbers names table cubes) where
   cubes_coded : are_coded names cubes ≡ true

@@ -12,7 +12,7 @@ allowed_as change totals one other same allowed = λ cover. subst (Allows change
 pub turned_as : (change : Change) (old new one other : Saving) → ((cover : List (List ℕ)) → one cover ≡ other cover) → IsTurned change old new one → IsTurned change old new other
 turned_as change old new one other same turned = λ cover. subst (λ (n : ℕ). Changes change (old cover) n (new cover)) (same cover) (turned cover)
 
--- nothing came or went
+-- nothing was added or subtracted
 changes_none : (change : Change) (total saving : ℕ) → saving ≡ 0 → Changes change total saving total
 changes_none Comes total saving none = omega (arith, none)
 changes_none Goes total saving none = omega (arith, none)
@@ -39,7 +39,7 @@ pub partly_ended : (change : Change) (old now whole rest : Saving) → IsPartly 
 partly_ended Comes old now whole rest partly none = λ cover. let done = partly cover in let left = none cover in omega (arith, done, left)
 partly_ended Goes old now whole rest partly none = λ cover. let done = partly cover in let left = none cover in omega (arith, done, left)
 
--- of a saving in two parts the first, and the second behind it
+-- the first of a saving in two parts, and the second after it
 pub allowed_first : (change : Change) (totals whole next left : Saving) → AreAllowed change totals whole → ((cover : List (List ℕ)) → whole cover ≡ next cover + left cover) → AreAllowed change totals next
 allowed_first Comes totals whole next left allowed splits = λ cover. omega arith
 allowed_first Goes totals whole next left allowed splits = λ cover. let may = allowed cover in let split = splits cover in omega (arith, may, split)

@@ -12,11 +12,11 @@ use Rattle.cover_names.specs.Literals.{Cube, NamedCover, sorted}
 use Rattle.cover_names.specs.declared.literal.Literal.{Literal}
 use Rattle.net_gains.specs.declared.codes.Signal.{Signal}
 
--- names byte for byte
+-- names compared byte by byte
 abbrev pub name_cmp : List ℕ → List ℕ → Ordering
 name_cmp = slice_cmp nat_cmp
 
--- names that rise, each below all later ones
+-- names that rise, each less than all later ones
 abbrev pub AreRising : List (List ℕ) → Type 0
 AreRising names = IsStrictlySortedBy name_cmp names
 
@@ -48,11 +48,11 @@ codes_of names cube = map (code_of names) cube
 abbrev pub coded : List (List ℕ) → NamedCover → List (List ℕ)
 coded names cover = map (codes_of names) cover
 
--- whether all names of a cube are in a list. `is_over` says so of a cover
+-- whether all names of a cube are in a list; `is_over` is the same for a cover
 abbrev pub is_known : List (List ℕ) → Cube → Bool
 is_known names cube = list_all (λ (literal : Literal). has names literal.name) cube
 
--- whether a number is that of a literal of the names, and whether all numbers of a cube and of a
+-- whether a number is that of a literal of the names, and whether all numbers of a cube or of a
 -- cover are
 abbrev pub is_code : List (List ℕ) → ℕ → Bool
 is_code names number = nat_lt number (2 * length names)

@@ -1,7 +1,7 @@
--- Divisors as keys: what cover each one is, and their order. Source: Rajski and Vasudevamurthy,
--- "The testability-preserving concurrent decomposition and factorization of Boolean expressions"
--- (IEEE Transactions on CAD 11, 1992): double-cube divisors and single cubes. The order is the
--- project's own.
+-- Divisors as keys: the cover of each, and their order. Source: Rajski and Vasudevamurthy, "The
+-- testability-preserving concurrent decomposition and factorization of Boolean expressions" (IEEE
+-- Transactions on CAD 11, 1992): double-cube divisors and single cubes. The order is the project's
+-- own.
 use Rattle.std.specs.Prelude.{◌≡◌, ℕ, false, List, [], ◌∷◌, if◌then◌else◌}
 use Rattle.std.specs.Ordering.{ordering_then}
 use Rattle.std.specs.declared.cmp.Ordering.{Ordering}
@@ -10,7 +10,7 @@ use Rattle.cover_names.specs.Literals.{sorted}
 use Rattle.net_gains.specs.CodedGains.{numbers_cmp, is_one}
 use Rattle.net_gains.specs.declared.divisor.Divisor.{Divisor}
 
--- the two cubes, or the first alone where the second has no number
+-- the two cubes, or the first alone if the second has no number
 abbrev pub cover_with : List ℕ → List ℕ → List (List ℕ)
 cover_with first second = if is_one second then first ∷ [] else first ∷ second ∷ []
 

@@ -15,7 +15,7 @@ unfoldable pub over_pairs : {X : Type 0} → (X → X → ℕ) → List X → �
 over_pairs gain [] = 0
 over_pairs gain (item ∷ items) = sum_by (gain item) items + over_pairs gain items
 
--- how many literals a cover has
+-- the number of literals of a cover
 abbrev pub literals_in : {X : Type 0} → List (List X) → ℕ
 literals_in cover = sum_by length cover
 
@@ -28,21 +28,21 @@ abbrev pub is_one : Cube → Bool
 is_one [] = true
 is_one (literal ∷ literals) = false
 
--- what two cubes have besides what they share, as a sum
+-- the sum of what each of two cubes has besides the other
 abbrev pub sum_of_two : Cube → Cube → NamedCover
 sum_of_two one other = sorted cube_cmp (own one other ∷ own other one ∷ [])
 
--- what two rows save where that sum is extracted: they become one row, which has what they share
--- and the sum's literal. The literals of the sum's own table are not taken off
+-- what two rows save if that sum is extracted: they become one row, which has what they share and
+-- the sum's literal. The literals of the sum's own table are not subtracted
 unfoldable pub sum_gain : NamedCover → Cube → Cube → ℕ
 sum_gain cover one other =
     if not (is_one (own one other)) && not (is_one (own other one)) && same_cover cover (sum_of_two one other)
     then length (shared one other) + length (own one other) + length (own other one) - 1 else 0
 
--- what a row saves where the product of two of its literals is extracted: one literal
+-- what a row saves if the product of two of its literals is extracted: one literal
 unfoldable pub product_gain : NamedCover → Literal → Literal → ℕ
 product_gain cover one other = if same_cover cover ((one ∷ other ∷ []) ∷ []) then 1 else 0
 
--- what rows save together; they are meant as sorted cubes that all differ
+-- what rows save together; they are expected to be sorted cubes that all differ
 unfoldable pub gains : NamedCover → List Cube → ℕ
 gains cover cubes = over_pairs (sum_gain cover) cubes + sum_by (over_pairs (product_gain cover)) cubes

@@ -1,5 +1,5 @@
 -- Rows of tables that are kept, what a divisor saves in all of them together, and which of the
--- divisors that save and pass a trial is first. Source: Rajski and Vasudevamurthy, "The
+-- divisors that save and are admissible is first. Source: Rajski and Vasudevamurthy, "The
 -- testability-preserving concurrent decomposition and factorization of Boolean expressions" (IEEE
 -- Transactions on CAD 11, 1992): the weight of a divisor is a sum over pairs of cubes, and a
 -- divisor itself costs its literals. The order among covers that save as much is the project's own.
@@ -17,18 +17,18 @@ pub record Kept : Type 0 where
   pub names : List (List ℕ)
   pub tables : List (List Cube)
 
--- the same with one more table's cubes, and with the cubes at a place replaced
+-- the same with one more table's cubes, and with the cubes at an index replaced
 abbrev pub with_last : Kept → List Cube → Kept
 with_last kept cubes = record kept { tables = kept.tables ++ cubes ∷ [] }
 
 abbrev pub with_cubes : Kept → ℕ → List Cube → Kept
 with_cubes kept place cubes = record kept { tables = slice_set kept.tables place cubes }
 
--- a table can be counted: each input is one of the names, and no row stands twice
+-- a table can be counted: each input is one of the names, and no row occurs twice
 abbrev pub is_countable : List (List ℕ) → Table → Bool
 is_countable names table = list_all (has names) table.inputs && rows_differ table.rows
 
--- what a cover saves in all tables together, the literals of its own table not taken off
+-- what a cover saves in all tables together, the literals of its own table not subtracted
 abbrev pub total : Kept → NamedCover → ℕ
 total kept cover = sum_by (gains cover) kept.tables
 
@@ -36,7 +36,7 @@ total kept cover = sum_by (gains cover) kept.tables
 abbrev pub Saves : Kept → NamedCover → Type 0
 Saves kept cover = literals_in cover < total kept cover
 
--- of the covers that save and pass none saves more, and none in front of it as much
+-- of the covers that save and pass none saves more, and none that comes before it as much
 pub record IsFirst (Passes : NamedCover → Type 0) (kept : Kept) (cover : NamedCover) : Type 0 where
   pub saves : Saves kept cover
   pub passes : Passes cover

@@ -1,5 +1,5 @@
--- The numbers of a divisor mixed into two, by which it is hashed. No public clause needs these
--- definitions.
+-- The numbers of a divisor mixed into two words, by which it is hashed. No public clause needs
+-- these definitions.
 use Rattle.std.specs.Prelude.{◌≡◌, ◌+◌, ◌*◌, ◌%◌, ◌^◌, ◌++◌, ℕ, true, List, [], ◌∷◌, nat_eq}
 use Rattle.std.specs.Hash as fed
 use Rattle.std.specs.Hash.{HashWrites, Alike, same_Alike, on_Alike, and-Alike}
@@ -7,11 +7,11 @@ use Rattle.std.specs.Cmp.Lexicographic.{pointwise, bytes_decides}
 use Rattle.net_gains.specs.Orders.{divisor_eq}
 use Rattle.net_gains.specs.declared.divisor.Divisor.{Divisor}
 
--- the odd number nearest to 2^64 by the golden ratio: each number moves all higher bits
+-- the odd number nearest to 2^64 divided by the golden ratio: each number changes all higher bits
 abbrev pub multiplier : ℕ
 multiplier = 0x9e37_79b9_7f4a_7c15
 
--- what a number becomes with those of a list, one after the other
+-- a number mixed with those of a list, one after the other
 unfoldable pub mixed_with : ℕ → List ℕ → ℕ
 mixed_with made [] = made
 mixed_with made (number ∷ numbers) = mixed_with (((made * multiplier) % 2 ^ 64 + number) % 2 ^ 64) numbers

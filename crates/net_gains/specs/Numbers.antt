@@ -63,7 +63,7 @@ pub record IsCounted (counted : Counted) : Type 0 where
   pub apart : AllByRecursion AreApart (tables_in counted.tables.items)
   pub totals : (cover : List (List ℕ)) → total_of counted.totals cover ≡ sum_by (gains cover) (tables_in counted.tables.items)
 
--- and all numbers are those of literals
+-- the same, and all numbers are those of literals
 pub record IsKept (names : List (List ℕ)) (counted : Counted) : Type 0 where
   pub sums : IsCounted counted
   pub known : AllByRecursion (λ (cubes : List (List ℕ)). are_coded names cubes ≡ true) (tables_in counted.tables.items)

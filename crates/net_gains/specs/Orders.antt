@@ -1,4 +1,4 @@
--- The laws that the orders of divisors and of what they save keep. No public clause needs them.
+-- The laws of the orders of divisors and of their savings. No public clause needs them.
 use Rattle.std.specs.Prelude.{◌≡◌, ℕ, ◌&&◌, Bool, List, nat_eq}
 use Rattle.std.proofs.Common.{sym, ap}
 use Rattle.std.specs.Cmp.{IsTotalOrder, IsPartialOrder, IsEquivalence, IsPartialEquivalence, po, on_total, back_total, nat_cmp_total, then_total, both_tied, on_equiv, and_equiv, nat_eq_equiv, partial_equiv_from_equiv}
@@ -32,13 +32,13 @@ divisors_equiv = and_equiv (on_equiv (λ (divisor : Divisor). divisor.first) (li
 pub divisors_per : IsPartialEquivalence divisor_eq
 divisors_per = partial_equiv_from_equiv divisors_equiv
 
--- divisors that compare alike are one
+-- divisors that compare equal are the same
 pub divisors_exact : CmpEqualImpliesEq divisor_cmp
 divisors_exact one other h =
     ap (λ (cubes : List ℕ × List ℕ). let divisor : Divisor = record { first = cubes.0; second = cubes.1 } in divisor)
     (exact_pairs numbers_cmp numbers_cmp exact_bytes exact_bytes (one.first, one.second) (other.first, other.second) h)
 
--- what divisors save, the greatest first; what compares alike is one
+-- savings, the greatest first; savings that compare equal are the same
 abbrev pub saving_cmp : Reverse ℕ → Reverse ℕ → Ordering
 saving_cmp one other = nat_cmp other.0 one.0
 

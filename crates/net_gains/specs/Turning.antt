@@ -1,5 +1,5 @@
--- What a change makes of the totals that are noted, the parts of two lists of cubes, and products
--- that are left alone. No public clause needs it.
+-- How a change alters the totals, two lists of cubes compared, and products that are left out. No
+-- public clause needs it.
 use Rattle.std.specs.Prelude.{◌≡◌, ℕ, ◌+◌, min, max, not, List, [], ◌∷◌, drop, slice_index_or, filter, if◌then◌else◌}
 use Rattle.std.specs.List.{sum_by}
 use Rattle.circuit_model.specs.Names.{has}
@@ -26,27 +26,27 @@ beside cover cubes others = sum_by (λ cube. sum_by (sum_gain cover cube) others
 abbrev pub gains_beside : List (List ℕ) → List (List ℕ) → List (List ℕ) → ℕ
 gains_beside cover cubes others = gains cover cubes + beside cover cubes others
 
--- what the product of two literals saves, in whichever order they are named
+-- what the product of two literals saves, in either order
 abbrev pub either_gain : List (List ℕ) → ℕ → ℕ → ℕ
 either_gain cover one other = product_gain cover (min one other) (max one other)
 
--- what products save of which a literal is a cube's own beside its partner; a product of two that
--- they share goes and comes again
+-- what products save of which a literal is a cube's own besides its partner; a product of two that
+-- they share would be subtracted and added again
 abbrev pub own_products : List (List ℕ) → List ℕ → List ℕ → ℕ
 own_products cover cube partner =
     over_pairs (either_gain cover) (own cube partner) + sum_by (λ number. sum_by (either_gain cover number) (shared cube partner)) (own cube partner)
 
--- those of each cube beside the partner at its place; one that has no partner shares nothing
+-- the same for each cube besides the partner at its index; one without a partner shares nothing
 unfoldable pub paired_products : List (List ℕ) → List (List ℕ) → List (List ℕ) → ℕ
 paired_products cover [] partners = 0
 paired_products cover (cube ∷ cubes) partners = own_products cover cube (slice_index_or partners 0 []) + paired_products cover cubes (drop 1 partners)
 
--- what is noted of cubes: their sums with one another and with each of some others, and their
--- products beside partners
+-- what is counted of cubes: their sums with one another and with each of some others, and their
+-- products besides partners
 abbrev pub paired_gains : List (List ℕ) → List (List ℕ) → List (List ℕ) → List (List ℕ) → ℕ
 paired_gains cover cubes others partners = over_pairs (sum_gain cover) cubes + (beside cover cubes others + paired_products cover cubes partners)
 
--- what covers save
+-- what each cover saves
 abbrev pub Saving : Type 0
 Saving = List (List ℕ) → ℕ
 
@@ -54,15 +54,15 @@ Saving = List (List ℕ) → ℕ
 abbrev pub saved_by : Divisor → ℕ → Saving
 saved_by divisor saving cover = if same_lists cover (cover_of divisor) then saving else 0
 
--- what goes was part of the totals
+-- what is subtracted is part of the totals
 abbrev pub AreAllowed : Change → Saving → Saving → Type 0
 AreAllowed change totals saving = (cover : List (List ℕ)) → Allows change (totals cover) (saving cover)
 
--- a saving came to the totals of all covers, or went from them
+-- a saving was added to the totals of all covers, or subtracted from them
 abbrev pub IsTurned : Change → Saving → Saving → Saving → Type 0
 IsTurned change old new saving = (cover : List (List ℕ)) → Changes change (old cover) (saving cover) (new cover)
 
--- of a whole saving some came or went, and the rest is left to do
+-- a part of a saving was added or subtracted, and the rest is left
 abbrev pub IsPartly : Change → Saving → Saving → Saving → Saving → Type 0
 IsPartly Comes old now whole rest = (cover : List (List ℕ)) → now cover + rest cover ≡ old cover + whole cover
 IsPartly Goes old now whole rest = (cover : List (List ℕ)) → now cover + whole cover ≡ old cover + rest cover

@@ -1,6 +1,6 @@
 //! Laws of numbers for literals, each the contract of a call that does nothing.
 //!
-//! What is true of literals, cubes and covers is true of their numbers: order, sorting, common and
+//! What holds of literals, cubes and covers holds of their numbers: order, sorting, common and
 //! remaining literals, and gains. Names must rise and be known.
 
 ghost use Rattle.std.specs.Prelude.{◌≡◌, ◌<◌, ℕ, true, List, length};
@@ -16,8 +16,7 @@ ghost use Rattle.cover_names.specs.declared.literal.Literal.{Literal};
 ghost use Rattle.net_gains.specs.Gains.{sum_of_two, gains, literals_in};
 ghost use Rattle.net_gains.specs.Codes.{AreRising, code_of, codes_of, coded, is_known, is_code, are_coded};
 
-/// Numbers stand in the order of their literals, and lists of them in the order of cubes and
-/// covers.
+/// Numbers have the order of their literals, and lists of numbers that of cubes and covers.
 pub fn numbers_keep_orders()
     ensures literals { (names : List (List ℕ)) (one other : Literal) → AreRising names
         → has names one.name ≡ true → has names other.name ≡ true
@@ -31,7 +30,7 @@ pub fn numbers_keep_orders()
 {}
 
 /// The numbers of a rising cube rise, and so do those of a rising cover; the number of a known
-/// literal is below twice the count of the names.
+/// literal is less than twice the number of names.
 pub fn numbers_rise()
     ensures within { (names : List (List ℕ)) (literal : Literal) → has names literal.name ≡ true
         → is_code names (code_of names literal) ≡ true }
@@ -53,8 +52,8 @@ pub fn numbers_tell_apart()
         → coded names one ≡ coded names other → one ≡ other }
 {}
 
-/// Sorting, what two cubes share, what one has beside that, and the sum of the two can be taken
-/// before the numbers or after.
+/// Sorting, what two cubes share, what one has besides the other, and the sum of the two give the
+/// same on numbers as on literals.
 pub fn numbers_keep_parts()
     ensures sorted_cubes { (names : List (List ℕ)) (cube : Cube) → AreRising names
         → is_known names cube ≡ true → codes_of names (sorted literal_cmp cube) ≡ sorted nat_cmp
@@ -74,7 +73,7 @@ pub fn numbers_keep_parts()
 {}
 
 /// Known rows save as much by numbers as by names, a cover has as many numbers as literals, and
-/// what saves among the numbers of known rows has numbers of literals of the names alone.
+/// what saves in the numbers of known rows has only numbers of literals of the names.
 pub fn numbers_keep_gains()
     ensures gains { (names : List (List ℕ)) (cover : NamedCover) (cubes : List Cube)
         → AreRising names → is_over names cover ≡ true → is_over names cubes ≡ true

@@ -28,8 +28,8 @@ pub struct Signal {
     pub positive: u32,
 }
 
-/// Different names in order; contracts see their list. The two literals of each name have a number
-/// each.
+/// Different names in order, each of whose two literals has a number. Contracts see the list of
+/// names.
 #[derive(Drop)]
 pub struct Codes {
     names: Vec<Name>,
@@ -46,7 +46,7 @@ impl Model for Codes {
     ghost invariant = { λ codes. AreRising codes.names.items × (length codes.names.items < 2147483648) };
 }
 
-// How two names stand, byte for byte.
+// The order of two names, byte by byte.
 fn compare_names(one: &Name, other: &Name) -> Ordering
     ensures { result ≡ name_cmp one.now other.now }
 {
@@ -54,8 +54,8 @@ fn compare_names(one: &Name, other: &Name) -> Ordering
 }
 
 impl Codes {
-    /// The codes of names, which may stand in any order and more than once; an error only where
-    /// there are more than can have numbers.
+    /// The codes of names, which may be in any order and occur more than once. An error only if
+    /// there are too many to have numbers, 2^31 different names or more.
     pub fn of(names: Vec<Name>) -> Result<Codes, AllocError>
         ensures codes { IfOk result (λ codes. codes ≡ in_order names.items) }
         ensures over { OnErr result (2147483648 ≤ length (in_order names.items)) }
@@ -78,7 +78,7 @@ impl Codes {
         let _names = &self.names;
     }
 
-    // The place of a name among the names, if it is one of them.
+    // The position of a name among the names, if it is one of them.
     fn place(&self, name: &Name) -> Option<usize>
         ensures { MatchOption result (has self.now name.now ≡ false)
             (λ place. (has self.now name.now ≡ true) × (place ≡ place_of self.now name.now)

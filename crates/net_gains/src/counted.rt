@@ -19,7 +19,7 @@ pub(crate) struct Counted {
 }
 
 impl Counted {
-    /// No tables; takes no memory.
+    /// No tables. Allocates nothing.
     pub(crate) fn new(alloc: Global) -> Counted
         ensures counted { IsCounted result }
         ensures none { result.tables.items ≡ [] }
@@ -51,7 +51,7 @@ impl Counted {
         Ok(Counted { tables, totals })
     }
 
-    /// The same with the cubes at a place replaced.
+    /// The same with the cubes at an index replaced.
     pub(crate) fn with_cubes(
         self,
         alloc: Global,

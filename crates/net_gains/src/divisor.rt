@@ -23,14 +23,14 @@ pub(crate) const KEPT_INLINE: usize = 20;
 /// The numbers of a cube, in rising order.
 pub type Numbers = Short<u32, KEPT_INLINE>;
 
-/// A sum of two cubes, the lesser one first, or one cube, where the second has no number.
+/// A sum of two cubes, the lesser one first, or one cube; then the second has no number.
 #[derive(Debug, PartialEq, Eq, Drop)]
 pub struct Divisor {
     pub first: Numbers,
     pub second: Numbers,
 }
 
-// By hand, since a sum has some forty numbers, and each look-up hashes it.
+// Written out, since a sum has some forty numbers, and each look-up hashes it.
 impl Hash for Divisor {
     ghost use Rattle.net_gains.specs.Mixing.{divisor_input, divisors_alike};
 

@@ -15,8 +15,8 @@ use crate::parting::parts_of;
 use crate::totals::{Change, Totals};
 use std::alloc::{AllocError, Global};
 
-/// A table of rising cubes comes; an error only for want of memory, or where a total is too large
-/// for a machine word; behind it any totals may stand.
+/// Adds a table of rising cubes. Also an error if a total is too large for a machine word. After an
+/// error any totals may be kept.
 pub(crate) fn add(totals: &mut Totals, alloc: Global, cubes: &[Vec<u32>]) -> Result<(), AllocError>
     requires { AreCubes (map (λ cube. cube.items) cubes.now) }
     ensures { OnOk result ((cover : List (List ℕ)) → total_of totals.new cover
@@ -25,9 +25,10 @@ pub(crate) fn add(totals: &mut Totals, alloc: Global, cubes: &[Vec<u32>]) -> Res
     note_with(totals, alloc, Change::Comes, cubes, &[], &[])
 }
 
-/// A table whose cubes were added changes; pairs of cubes that stay are not looked at, nor products
-/// that stay in a cube that comes at the place of one that goes. An error only for want of memory,
-/// or where a total is too large for a machine word; behind it any totals may stand.
+/// Replaces the cubes of a table by others. Pairs of cubes that stay are not counted again, nor are
+/// products that a removed cube and the added cube paired with it have in common; no clause says
+/// so. Also an error if a total is too large for a machine word. After an error any totals may be
+/// kept.
 pub(crate) fn exchange(
     totals: &mut Totals,
     alloc: Global,

@@ -2,9 +2,9 @@
 //!
 //! Source: Rajski and Vasudevamurthy (IEEE Transactions on CAD 11, 1992). Invariant (`IsKept`): all
 //! numbers are those of literals, and the totals are what the tables gain together. Contracts see
-//! the names and the cubes of each table alone. Callers rely on `push` and `set` to take a table
-//! exactly if it can be counted, and on `first` for the cover that saves most of those that pass a
-//! trial, of equal ones the first. After an error anything may be kept.
+//! only the names and the cubes of each table. Callers rely on `push` and `set` to accept a table
+//! exactly if it can be counted, and on `first` for the cover that saves most of those that are
+//! admissible, of several the first. After an error anything may be kept.
 
 ghost use Rattle.std.specs.Prelude.{◌≡◌, ◌<◌, ℕ, true, false, List, [], length, IfOk, MatchOption};
 ghost use Rattle.circuit_model.specs.Names.{has, all_different};
@@ -32,7 +32,7 @@ pub struct DivisorGains {
     counted: Counted,
 }
 
-// By hand, so that letting it go is one call in the functions that own it.
+// Written out, so that dropping it is one call in the functions that own it.
 impl Drop for DivisorGains {
     fn drop(self) {
         let DivisorGains {
@@ -55,8 +55,8 @@ impl Model for DivisorGains {
 }
 
 impl DivisorGains {
-    /// No tables yet, over names, which may stand in any order and more than once; an error only
-    /// for want of memory, or of numbers for so many names.
+    /// No tables yet, over names, which may be in any order and occur more than once. Also an error
+    /// if there are too many names to have numbers.
     pub fn new(alloc: Global, names: Vec<Name>) -> Result<DivisorGains, AllocError>
         ensures names { IfOk result (λ kept. (name : List ℕ) → has kept.names name
             ≡ has names.items name) }
@@ -68,9 +68,9 @@ impl DivisorGains {
         })
     }
 
-    /// A table comes behind the others; false, and nothing changes, where an input is not one of
-    /// the names or a row stands twice. An error only for want of memory, or where a total is too
-    /// large for a machine word; behind it anything may be kept.
+    /// Appends a table. False, and nothing changes, if an input is not one of the names or a row
+    /// occurs twice. Also an error if a total is too large for a machine word. After an error
+    /// anything may be kept.
     pub fn push<R: Row>(&mut self, alloc: Global, table: &CoverTable<R>) -> Result<bool, AllocError>
         requires over { IsOverInputs table.now }
         requires once { all_different table.now.inputs ≡ true }
@@ -90,9 +90,9 @@ impl DivisorGains {
         }
     }
 
-    /// The table at a place changes; false, and nothing changes, where an input is not one of the
-    /// names or a row stands twice. An error only for want of memory, or where a total is too large
-    /// for a machine word; behind it anything may be kept.
+    /// Replaces the table at an index. False, and nothing changes, if an input is not one of the
+    /// names or a row occurs twice. Also an error if a total is too large for a machine word. After
+    /// an error anything may be kept.
     pub fn set<R: Row>(
         &mut self,
         alloc: Global,
@@ -118,8 +118,8 @@ impl DivisorGains {
         }
     }
 
-    /// Of the covers that save more than their own literals and pass a trial the one that saves
-    /// most, of equal ones the first; none where none saves and passes.
+    /// Of the covers that save more than their own literals and are admissible the one that saves
+    /// most, of several the first; none if no cover saves and is admissible.
     pub fn first<T: Trial>(
         &self,
         alloc: Global,

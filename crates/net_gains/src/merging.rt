@@ -1,6 +1,7 @@
-//! The numbers of each of two rising cubes that the other has not, found by one merge.
+//! The numbers of each of two rising cubes that the other lacks, found by one merge.
 //!
-//! Both lists are made in one allocation each; one that fills little of its memory is copied.
+//! Both lists are made in one allocation each; one that fills little of its memory is copied. No
+//! clause says so.
 
 ghost use Rattle.std.specs.Prelude.{◌≡◌, IfOk};
 ghost use Rattle.std.specs.List.Sorted.{IsStrictlySortedBy};
@@ -11,8 +12,8 @@ use crate::divisor::{KEPT_INLINE, Numbers};
 use std::alloc::{AllocError, Global};
 use std::cmp::Ordering;
 
-// The numbers of a vector: where they lie, without a copy, if they are many and fill half of its
-// memory at least. Else a copy that takes no more than it needs, since a long cube may have few
+// The numbers of a vector: the vector itself, without a copy, if they are many and fill at least
+// half of its memory; else a copy that takes no more than it needs, since a long cube may have few
 // numbers of its own, and its divisors are kept.
 fn settled(alloc: Global, list: Vec<u32>) -> Result<Numbers, AllocError>
     ensures { IfOk result (λ made. made ≡ list.items) }
@@ -23,7 +24,7 @@ fn settled(alloc: Global, list: Vec<u32>) -> Result<Numbers, AllocError>
     Numbers::from_slice(alloc, list.as_slice())
 }
 
-/// The numbers of each of two rising cubes that the other has not.
+/// The numbers of each of two rising cubes that the other lacks.
 pub(crate) fn own_parts(
     alloc: Global,
     one: &[u32],

@@ -15,7 +15,7 @@ ghost use Rattle.net_gains.specs.Gains.{gains};
 ghost use Rattle.alg_tables.specs.Dividing.{divided};
 ghost use Rattle.circuit_tables.specs.Tidy.{rows_differ};
 
-/// A table in which no row stands twice loses just its gains when it is divided by a candidate of
+/// A table in which no row occurs twice loses exactly its gains if it is divided by a candidate of
 /// `fx`, in a sound circuit and under a new name.
 pub fn gains_are_what_tables_lose()
     ensures { (circuit : Circuit) (name : List ℕ) (cover : NamedCover) (table : Table)

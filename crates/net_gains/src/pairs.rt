@@ -1,9 +1,9 @@
-//! Adds to the gains, or takes from them, what pairs of cubes and pairs of literals gain.
+//! Adds to the totals, or subtracts from them, what pairs of cubes and pairs of literals gain.
 //!
 //! Source: Rajski and Vasudevamurthy, "The testability-preserving concurrent decomposition and
 //! factorization of Boolean expressions" (IEEE Transactions on CAD 11, 1992): the weights of
-//! double-cube divisors and of single cubes. Two cubes gain as a sum of what remains of each beside
-//! the other; a cube gains one literal for each product of two of its literals.
+//! double-cube divisors and of single cubes. Two cubes gain by the sum of what each has besides the
+//! other; a cube gains one literal for each product of two of its literals.
 
 ghost use Rattle.std.specs.Prelude.{◌≡◌, ℕ, List, [], map, slice_index_or, OnOk};
 ghost use Rattle.std.specs.List.{AllByRecursion, sum_by};
@@ -21,12 +21,12 @@ use std::alloc::{AllocError, Global};
 
 // What saves in pairs: cubes by sums, literals by products.
 trait SavesInPairs {
-    // What each cover saves where a pair is made one.
+    // What each cover saves if a pair becomes one item.
     ghost gain: { List (List ℕ) → Self → Self → ℕ };
 
     ghost Rises: { Self → Type 0 };
 
-    // Notes what two save.
+    // Counts what two save.
     fn note_pair(
         totals: &mut Totals,
         alloc: Global,
@@ -42,7 +42,7 @@ trait SavesInPairs {
             (λ cover. gain cover one.now other.now)) };
 }
 
-// Notes the sum of what two rows have beside each other.
+// Counts the sum of what each of two rows has besides the other.
 fn note_sum(
     totals: &mut Totals,
     alloc: Global,
@@ -85,7 +85,7 @@ impl SavesInPairs for Vec<u32> {
     }
 }
 
-// Of two literals of a row their product, the lesser one first.
+// Two literals of a row gain by their product, the lesser one first.
 impl SavesInPairs for u32 {
     ghost use Rattle.net_gains.specs.Turning.{either_gain};
 
@@ -105,7 +105,7 @@ impl SavesInPairs for u32 {
     }
 }
 
-// Notes what one saves with each of some others.
+// Counts what one saves with each of some others.
 fn note_beside<T: SavesInPairs>(
     totals: &mut Totals,
     alloc: Global,
@@ -126,7 +126,7 @@ fn note_beside<T: SavesInPairs>(
     Ok(())
 }
 
-// Notes what any two of some save.
+// Counts what each two of some save.
 fn note_within<T: SavesInPairs>(
     totals: &mut Totals,
     alloc: Global,
@@ -145,7 +145,7 @@ fn note_within<T: SavesInPairs>(
     Ok(())
 }
 
-// Notes what each of some saves with each of some others.
+// Counts what each of some saves with each of some others.
 fn note_across<T: SavesInPairs>(
     totals: &mut Totals,
     alloc: Global,
@@ -166,7 +166,7 @@ fn note_across<T: SavesInPairs>(
     Ok(())
 }
 
-// Notes the products of a row of which a literal is not its partner's.
+// Counts the products of a row of which a literal is not its partner's.
 fn note_own_products(
     totals: &mut Totals,
     alloc: Global,
@@ -187,7 +187,7 @@ fn note_own_products(
     note_across(totals, alloc, change, ours.as_slice(), both.as_slice())
 }
 
-// The row at a place, or one without literals where there is none.
+// The row at an index, or one without literals if there is none.
 fn partner_at(partners: &[Vec<u32>], place: usize) -> &[u32]
     ensures { result.now ≡ slice_index_or (map (λ cube. cube.items) partners.now) place [] }
 {
@@ -197,8 +197,8 @@ fn partner_at(partners: &[Vec<u32>], place: usize) -> &[u32]
     &[]
 }
 
-// Notes the products of each row of which a literal is not its partner's, which stands at the same
-// place.
+// Counts the products of each row of which a literal is not its partner's, the row at the same
+// index.
 fn note_paired_products(
     totals: &mut Totals,
     alloc: Global,
@@ -222,8 +222,8 @@ fn note_paired_products(
     Ok(())
 }
 
-/// Notes the sums of rows with one another and with each of some others, and their products beside
-/// partners.
+/// Counts the sums of rows with one another and with each of some others, and their products
+/// besides partners.
 pub(crate) fn note_with(
     totals: &mut Totals,
     alloc: Global,

@@ -1,7 +1,7 @@
 //! Two lists of cubes compared: the cubes of both, those removed and those added.
 //!
-//! Callers rely on the order of each list to be kept. The sets borrow the cubes; only the parts are
-//! copies.
+//! Callers rely on each part to have the order of its list. The sets borrow the cubes; only the
+//! parts are copies.
 
 ghost use Rattle.std.specs.Prelude.{◌≡◌, List, ℕ, map, IfOk};
 ghost use Rattle.circuit_model.specs.Names.{has};
@@ -19,7 +19,7 @@ pub(crate) struct Parts {
     pub(crate) come: Vec<Vec<u32>>,
 }
 
-// The set of some cubes, which stay where they are.
+// The set of some cubes, which are borrowed.
 fn set_of<'a>(alloc: Global, cubes: &'a [Vec<u32>]) -> Result<IndexSet<&'a [u32]>, AllocError>
     ensures { IfOk result (λ set. (cube : List ℕ) → has (map (λ key. key.now) set.keys) cube ≡ has
         (map (λ cube. cube.items) cubes.now) cube) }
@@ -74,7 +74,7 @@ fn cubes_beside(
     Ok(made)
 }
 
-/// The parts of two lists of cubes, by two look-ups of each cube at most.
+/// The parts of two lists of cubes, by at most two look-ups of each cube.
 pub(crate) fn parts_of(
     alloc: Global,
     old: &[Vec<u32>],

@@ -1,7 +1,7 @@
-//! Converts a divisor to a cover of names, and submits it to a trial.
+//! Converts a divisor to a cover of names, and tests whether it is admissible.
 //!
-//! Callers rely on none exactly if the divisor is no cover of the names, or its cover fails the
-//! trial.
+//! Callers rely on none exactly if the divisor is no cover of the names, or its cover is not
+//! admissible.
 
 ghost use Rattle.std.specs.Prelude.{◌≡◌, ◌≤◌, IfOk, MatchOption};
 ghost use Rattle.net_gains.specs.Divisors.{cover_of};
@@ -14,7 +14,7 @@ use crate::trial::Trial;
 use cover_names::NamedCover;
 use std::alloc::{AllocError, Global};
 
-/// The cover of a divisor that has a literal, if there is one and it passes.
+/// The cover of a divisor that has a literal, if there is one and it is admissible.
 pub(crate) fn passing_cover<T: Trial>(
     alloc: Global,
     codes: &Codes,

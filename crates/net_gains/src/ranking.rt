@@ -1,4 +1,4 @@
-//! What ranks divisors.
+//! The ranks of divisors.
 
 use crate::shared::SharedDivisor;
 use net_queue::Ranking;
@@ -6,8 +6,8 @@ use sis_base::Copied;
 use std::alloc::{AllocError, Global};
 use std::cmp::Reverse;
 
-/// Ranks divisors by what they save beyond their own literals, the greatest saving first; others
-/// have no rank.
+/// Ranks divisors by how much they save beyond their own literals, the greatest saving first; a
+/// divisor that saves no more than its literals has no rank.
 pub(crate) struct BySaving;
 
 impl Ranking<SharedDivisor, u64, Reverse<u64>> for BySaving {

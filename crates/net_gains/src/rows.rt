@@ -30,7 +30,7 @@ fn number_of(signal: Signal, bit: bool) -> u32
     }
 }
 
-// Puts the number of a signal's literal behind others, if the place has one.
+// Appends the number of a signal's literal in a column, if the column has one.
 fn add_number(numbers: &mut Vec<u32>, signal: Signal, place: Option<bool>) -> Result<(), AllocError>
     ensures { OnOk result (numbers.new.items ≡ numbers.old.items ++ numbers_from (signal ∷ [])
         (place ∷ [])) }
@@ -83,7 +83,7 @@ fn cubes_over<R: Row>(
     Ok(cubes)
 }
 
-// Whether no cube stands twice.
+// Whether no cube occurs twice.
 fn are_apart(alloc: Global, cubes: &[Vec<u32>]) -> Result<bool, AllocError>
     ensures { IfOk result (λ answer. answer ≡ all_different (lists_in cubes.now)) }
 {
@@ -94,7 +94,7 @@ fn are_apart(alloc: Global, cubes: &[Vec<u32>]) -> Result<bool, AllocError>
     Ok(seen.len() == cubes.len())
 }
 
-/// The numbers of a table's rows, if each input has numbers and no row stands twice.
+/// The numbers of a table's rows, if each input has numbers and no row occurs twice.
 pub(crate) fn numbers_of<R: Row>(
     alloc: Global,
     codes: &Codes,

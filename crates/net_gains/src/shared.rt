@@ -1,8 +1,10 @@
-//! Divisors with several owners: the totals and the ranking own one and the same, so that it is
-//! made once and lies in one piece of memory.
+//! Divisors with several owners: the totals and the ranking share one copy of each, so that it is
+//! made once and takes memory once.
 //!
-//! Promised: contracts see such a divisor as the divisor itself, and so do equality, order and
-//! hash.
+//! Source: the project's own representation, a reference count (`Rc`). Promised: contracts see such
+//! a divisor as the divisor itself, and so do equality, order and hash. Callers rely on look-ups by
+//! a plain divisor to find the shared one (`Equivalent`), so that a divisor is looked up before it
+//! is allocated.
 
 ghost use Rattle.std.specs.Prelude.{◌≡◌, map, IfOk};
 ghost use Rattle.net_gains.specs.Divisors.{cover_of};
@@ -18,7 +20,7 @@ use std::hash::{Hash, Hasher};
 use std::marker::Model;
 use std::rc::Rc;
 
-/// A divisor that several may own.
+/// A divisor that may have several owners.
 pub struct SharedDivisor {
     divisor: Rc<Divisor, Global>,
 }
@@ -66,7 +68,7 @@ impl SharedDivisor {
         Ok(cubes)
     }
 
-    /// How many literals there are.
+    /// The number of literals.
     pub fn literals(&self) -> u64
         ensures { result ≡ literals_in (cover_of self.now) }
     {
@@ -74,7 +76,7 @@ impl SharedDivisor {
     }
 }
 
-// One owner more.
+// Adds an owner.
 impl Copied for SharedDivisor {
     fn copy(&self, _alloc: Global) -> Result<SharedDivisor, AllocError> {
         Ok(SharedDivisor {
@@ -151,7 +153,7 @@ impl fmt::Debug for SharedDivisor {
     }
 }
 
-// So that a divisor is looked up before it has owners.
+// Lets a divisor be looked up before it has owners.
 impl Equivalent<SharedDivisor> for &Divisor {
     ghost use Rattle.net_gains.specs.Orders.{divisor_eq, divisors_equiv};
     ghost use Rattle.net_gains.specs.Mixing.{divisors_alike};

@@ -13,7 +13,7 @@ use net_queue::Queue;
 use std::alloc::{AllocError, Global};
 use std::cmp::Reverse;
 
-/// Whether what cubes save comes to the totals or goes from them.
+/// Whether what cubes save is added to the totals or subtracted from them.
 #[derive(Clone, Copy, Drop)]
 pub(crate) enum Change {
     Comes,
@@ -23,7 +23,7 @@ pub(crate) enum Change {
 /// What each divisor saves in all tables together.
 pub(crate) type Totals = Queue<SharedDivisor, u64, Reverse<u64>, BySaving>;
 
-// A total after a change; an error where no machine word holds it.
+// A total after a change; an error if no machine word holds it.
 fn changed(change: Change, total: u64, saving: u64) -> Result<u64, AllocError>
     requires { Allows change total saving }
     ensures { IfOk result (λ made. Changes change total saving made) }
@@ -34,8 +34,8 @@ fn changed(change: Change, total: u64, saving: u64) -> Result<u64, AllocError>
     }
 }
 
-// Sets the total at an index, which is that of a divisor; where it is 0 the divisor goes, for the
-// sake of memory.
+// Sets the total at an index, which is that of a divisor; if it is 0 the divisor is removed, to
+// save memory.
 fn set_total(totals: &mut Totals, alloc: Global, index: usize, total: u64) -> Result<(), AllocError>
     requires { index < length totals.old }
     ensures { OnOk result ((divisor : Divisor) (before : ℕ) → slice_get totals.old index ≡ Some
@@ -49,7 +49,7 @@ fn set_total(totals: &mut Totals, alloc: Global, index: usize, total: u64) -> Re
     totals.set_index(alloc, index, total)
 }
 
-/// What a divisor saves comes to its total or goes from it, by one look-up where it has one.
+/// Adds what a divisor saves to its total or subtracts it, by one look-up if it has one.
 pub(crate) fn note(
     totals: &mut Totals,
     alloc: Global,

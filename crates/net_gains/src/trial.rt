@@ -1,4 +1,4 @@
-//! The trait of trials that a cover must pass.
+//! The trait of tests whether a cover is admissible.
 
 ghost use Rattle.std.specs.Prelude.{◌≡◌, ◌≤◌, true, false, IfOk};
 ghost use Rattle.cover_names.specs.Literals.{NamedCover};
@@ -7,13 +7,13 @@ ghost use Rattle.net_gains.specs.Gains.{literals_in};
 use cover_names::NamedCover;
 use std::alloc::{AllocError, Global};
 
-/// A trial of covers.
+/// A test whether covers are admissible.
 pub trait Trial {
     ghost IsReady: { Self → Type 0 };
 
     ghost Passes: { Self → NamedCover → Type 0 };
 
-    /// Whether a cover that has a literal passes, where the trial is ready.
+    /// Whether a cover that has a literal is admissible, if the test is ready.
     fn passes(&self, alloc: Global, cover: &NamedCover) -> Result<bool, AllocError>
         requires ready { IsReady self.now }
         requires some { 1 ≤ literals_in cover.now }

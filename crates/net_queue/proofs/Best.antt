@@ -1,4 +1,4 @@
--- The first key of an order that passes is the best of those that pass.
+-- The first key of an order that passes a test is the best of those that pass.
 use Rattle.std.proofs.Common.{◌≡◌, ◌⊎◌, inl, inr, List, [], ◌∷◌, ◌++◌, map, Option, Some, Bor, Bool, true, false, ◌||◌, Ordering, Less, Equal, Greater, refl, sym, ap, ◌∙◌, subst, arith}
 use Rattle.std.specs.Cmp.{IsTotalOrder}
 use Rattle.std.specs.List.{list_any, AllByRecursion, Contains}
@@ -15,7 +15,7 @@ use Rattle.net_queue.specs.Queue.{ranked_cmp, AreRanked, IsBest}
 all_at : {X : Type 0} (P : X → Type 0) (xs : List X) (x : X) → AllByRecursion P xs → Contains xs x → P x
 all_at P xs x all has = All-contains P xs x (All-from_recursion P xs all) has
 
--- an item of a list is its first one, or stands behind that
+-- an item of a list is its first one, or comes after it
 ahead : {X : Type 0} (first : X) (xs : List X) (x : X) → Contains (first ∷ xs) x → (x ≡ first) ⊎ Contains xs x
 ahead first xs x has =
     elim (Contains-append_cases (first ∷ []) xs x has) as (λ _. (x ≡ first) ⊎ Contains xs x) [
@@ -26,7 +26,7 @@ ahead first xs x has =
 middle : {X : Type 0} (xs : List X) (x : X) (ys : List X) → Contains (xs ++ x ∷ ys) x
 middle xs x ys = Contains-append_right xs (x ∷ ys) x (0, omega arith, refl)
 
--- in a rising list an item is below those behind it
+-- in a strictly rising list an item is less than all items after it
 behind : {X : Type 0} (cmp : X → X → Ordering) (xs : List X) (x : X) (ys : List X) → IsStrictlySortedBy cmp (xs ++ x ∷ ys) → AllByRecursion (λ y. cmp x y ≡ Less) ys
 unfolding IsStrictlySortedBy
 behind cmp [] x ys rises = rises.0
@@ -43,7 +43,7 @@ turned {X} {cmp} total one other h k =
     absurd cc
 
 module _ {K R : Type 0} {rank_cmp : R → R → Ordering} {key_cmp : K → K → Ordering} (rank_total : IsTotalOrder rank_cmp) (key_total : IsTotalOrder key_cmp) (ranks : K → Option R) (Passes : K → Type 0) where
-  -- of some keys none passes
+  -- none of some keys passes
   abbrev pub Fail : List (R × K) → Type 0
   Fail ranked = AllByRecursion (λ (one : R × K). Passes one.1 → ⊥) ranked
 
@@ -51,7 +51,7 @@ module _ {K R : Type 0} {rank_cmp : R → R → Ordering} {key_cmp : K → K →
   none_best ranked are fail key rank passes has = all_at (λ (one : R × K). Passes one.1 → ⊥) ranked (rank, key) fail (are.all rank key has) passes
 
   module _ (before : List (R × K)) (found : R × K) (after : List (R × K)) (are : AreRanked rank_cmp key_cmp ranks (before ++ found ∷ after)) (fail : Fail before) where
-    -- a key that passes is the one that is found, or stands behind it
+    -- a key that passes is the one found, or comes after it
     stands : (key : K) (rank : R) → Passes key → ranks key ≡ Some rank → ((rank, key) ≡ found) ⊎ (ranked_cmp rank_cmp key_cmp found (rank, key) ≡ Less)
     stands key rank passes has =
         elim (Contains-append_cases before (found ∷ after) (rank, key) (are.all rank key has)) as (λ _. ((rank, key) ≡ found) ⊎ (ranked_cmp rank_cmp key_cmp found (rank, key) ≡ Less)) [
@@ -94,7 +94,7 @@ module _ {K R : Type 0} {rank_cmp : R → R → Ordering} {key_cmp : K → K →
   fail_all [] fail = tt
   fail_all (one ∷ yielded) fail = (fail.0, fail_all yielded fail.1)
 
-  -- a loop over an order that has come to a key, and one that has come to its end
+  -- a loop over an order that reaches a key, and one that reaches the end
   pub turn_best : (ranked : List (R × K)) → AreRanked rank_cmp key_cmp ranks ranked → (yielded : List (Bor (R × K))) (found : R × K) (rest : List (R × K)) → ranked ≡ map deref yielded ++ found ∷ rest
       → AllByRecursion (λ (one : Bor (R × K)). Passes one.now.1 → ⊥) yielded → IsBest rank_cmp key_cmp ranks Passes found.1
   turn_best ranked are yielded found rest split fail = first_best (map deref yielded) found rest (subst (AreRanked rank_cmp key_cmp ranks) split are) (fail_all yielded fail)

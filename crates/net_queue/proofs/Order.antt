@@ -1,4 +1,4 @@
--- What an order has when the rank of one key changes, and what its first key tells.
+-- An order after the rank of one key changes, and what its first key says of the ranks.
 use Rattle.std.proofs.Common.{◌≡◌, ◌↔◌, ℕ, ◌<◌, zero, suc, [], ◌∷◌, length, slice_get, arith, Bool, true, false, ◌&&◌, cond, Option, Some, None, List, Ordering, Less, Greater, refl, sym, ap, ◌∙◌}
 use Rattle.std.specs.BTreeSet.{BTreeSet, contains, Updates, IsOrdered, IsLowerBound}
 use Rattle.std.specs.Cmp.{IsTotalOrder, both_tied, Equal-is}
@@ -12,7 +12,7 @@ use Rattle.std.proofs.lemmas.Map.Lookups.{CmpEqualImpliesEq, exact_pairs}
 use Rattle.std.proofs.lemmas.Map.Views.{btree_set_contains_iff}
 use Rattle.net_queue.specs.Queue.{ranked_cmp, is_rank, rank_in, IsOrder, AreRanked, IsBest}
 
--- what a ranking promises of keys and ranks
+-- what a ranking guarantees of keys and ranks
 pub record AreExact {K R : Type 0} (eq : K → K → Bool) (rank_cmp : R → R → Ordering) (key_cmp : K → K → Ordering) : Type 0 where
   pub rank_total : IsTotalOrder rank_cmp
   pub key_total : IsTotalOrder key_cmp
@@ -31,7 +31,7 @@ and_false false = refl
 some_none : {X : Type 0} (x : X) → Some x ≡ None → ⊥
 some_none x e = cc
 
--- an entry stands at each index
+-- each index has an entry
 pub entry_at : {X : Type 0} (xs : List X) (index : ℕ) → index < length xs → (x : X) × (slice_get xs index ≡ Some x)
 entry_at [] index lt = absurd (omega (arith, lt))
 entry_at (x ∷ xs) zero lt = (x, refl)
@@ -50,7 +50,7 @@ module _ {K R : Type 0} {eq : K → K → Bool} {rank_cmp : R → R → Ordering
   tested : (rank that : R) (key other : K) → is_eq (ordering_then (rank_cmp rank that) (key_cmp key other)) ≡ (is_eq (rank_cmp rank that) && eq key other)
   tested rank that key other = sym (both_tied (is_eq (rank_cmp rank that)) (eq key other) (rank_cmp rank that) (key_cmp key other) refl (laws.ties key other))
 
-  -- an order by ranks is one by any that are the same
+  -- an order by ranks is an order by any ranks that are equal to them
   pub order_same : (ranks others : K → Option R) (order : BTreeSet (R × K)) → ((key : K) → ranks key ≡ others key) → IsOrder rank_cmp key_cmp ranks order → IsOrder rank_cmp key_cmp others order
   order_same ranks others order same is rank key = is rank key ∙ ap (λ (own : Option R). is_rank rank_cmp own rank) (same key)
 
@@ -62,7 +62,7 @@ module _ {K R : Type 0} {eq : K → K → Bool} {rank_cmp : R → R → Ordering
     own_rank : (other : K) (rank : Option R) → ranks key ≡ rank → eq key other ≡ true → ranks other ≡ rank
     own_rank other rank has e = ap ranks (sym (same_key key other e)) ∙ has
 
-    -- the rank that it has already
+    -- the rank that the key already has
     pub rank_still : (rank : Option R) → ranks key ≡ rank → (other : K) → ranks other ≡ with_rank rank other
     rank_still rank has other = cases (eq key other) refl
       where
@@ -70,7 +70,7 @@ module _ {K R : Type 0} {eq : K → K → Bool} {rank_cmp : R → R → Ordering
         cases true e = own_rank other rank has e
         cases false e = refl
 
-    -- a rank that goes
+    -- a rank is removed
     pub rank_gone : (before after : BTreeSet (R × K)) (rank : R) → IsOrder rank_cmp key_cmp ranks before → ranks key ≡ Some rank → Updates (ranked_cmp rank_cmp key_cmp) before after (rank, key) false
         → IsOrder rank_cmp key_cmp (with_rank None) after
     rank_gone before after rank is has updates that other =
@@ -88,7 +88,7 @@ module _ {K R : Type 0} {eq : K → K → Bool} {rank_cmp : R → R → Ordering
             ∙ (ap (λ (own : Option R). cond (is_eq (rank_cmp rank that)) false (is_rank rank_cmp own that)) (own_rank other (Some rank) has e) ∙ gone (is_eq (rank_cmp rank that)))
         cases false e = ap (λ (a : Bool). cond a false (is_rank rank_cmp (ranks other) that)) (and_false (is_eq (rank_cmp rank that)))
 
-    -- a rank that comes
+    -- a rank is added
     pub rank_come : (before after : BTreeSet (R × K)) (rank : R) → IsOrder rank_cmp key_cmp ranks before → ranks key ≡ None → Updates (ranked_cmp rank_cmp key_cmp) before after (rank, key) true
         → IsOrder rank_cmp key_cmp (with_rank (Some rank)) after
     rank_come before after rank is has updates that other =
@@ -106,7 +106,7 @@ module _ {K R : Type 0} {eq : K → K → Bool} {rank_cmp : R → R → Ordering
             ∙ (ap (λ (own : Option R). cond (is_eq (rank_cmp rank that)) true (is_rank rank_cmp own that)) (own_rank other None has e) ∙ come (is_eq (rank_cmp rank that)))
         cases false e = ap (λ (a : Bool). cond a true (is_rank rank_cmp (ranks other) that)) (and_false (is_eq (rank_cmp rank that)))
 
-    -- a rank that came behind one that went
+    -- a rank added after one was removed
     pub rank_changed : (rank : Option R) (other : K) → cond (eq key other) rank (with_rank None other) ≡ with_rank rank other
     rank_changed rank other = cases (eq key other) refl
       where
@@ -114,7 +114,7 @@ module _ {K R : Type 0} {eq : K → K → Bool} {rank_cmp : R → R → Ordering
         cases true e = refl
         cases false e = ap (λ (b : Bool). cond b None (ranks other)) e
 
-    -- a rank that goes, and another that comes for the key
+    -- a rank is removed, and another one added for the same key
     pub rank_renewed : (between after : BTreeSet (R × K)) (rank : Option R) → IsOrder rank_cmp key_cmp (with_rank None) between
         → ((others : K → Option R) → IsOrder rank_cmp key_cmp others between → others key ≡ None → IsOrder rank_cmp key_cmp (λ other. cond (eq key other) rank (others other)) after)
         → IsOrder rank_cmp key_cmp (with_rank rank) after
@@ -122,14 +122,14 @@ module _ {K R : Type 0} {eq : K → K → Bool} {rank_cmp : R → R → Ordering
         order_same (λ other. cond (eq key other) rank (with_rank None other)) (with_rank rank) after (rank_changed rank)
         (put (with_rank None) is (ap (λ (b : Bool). cond b None (ranks key)) (key_itself key)))
 
-  -- ranks that are alike are one
+  -- ranks that compare equal are the same
   pub same_rank : {rank_eq : R → R → Bool} → ((one other : R) → rank_eq one other ≡ is_eq (rank_cmp one other)) → (one other : Option R) → option_eq rank_eq one other ≡ true → one ≡ other
   same_rank ties None None h = refl
   same_rank ties None (Some other) h = absurd (false≢true h)
   same_rank ties (Some one) None h = absurd (false≢true h)
   same_rank ties (Some one) (Some other) h = ap Some (laws.ranks_exact one other ((Equal-is (rank_cmp one other)).0 (sym (ties one other) ∙ h)))
 
-  -- ranks of values, of which that of one key changes
+  -- the ranks of values of which one is changed
   pub ranks_with : {V : Type 0} (rank_of : K → V → Option R) (before after : List (K × V)) (key : K) (value : Option V)
       → ((other : K) → lookup (eq other) after ≡ cond (eq key other) value (lookup (eq other) before))
       → (other : K) → cond (eq key other) (option_map_or (rank_of key) value None) (rank_in eq rank_of before other) ≡ rank_in eq rank_of after other
@@ -140,7 +140,7 @@ module _ {K R : Type 0} {eq : K → K → Bool} {rank_cmp : R → R → Ordering
       cases true e = ap (λ one. option_map_or (rank_of one) value None) (same_key key other e)
       cases false e = refl
 
-  -- ---- what an order tells
+  -- ---- what an order says of ranks
 
   module _ (ranks : K → Option R) (order : BTreeSet (R × K)) (is : IsOrder rank_cmp key_cmp ranks order) where
     there : (rank : R) (key : K) → ranks key ≡ Some rank → contains (ranked_cmp rank_cmp key_cmp) order (rank, key) ≡ true
@@ -166,7 +166,7 @@ module _ {K R : Type 0} {eq : K → K → Bool} {rank_cmp : R → R → Ordering
             btree_set_contains_iff (then_total (on_total (λ (one : R × K). one.0) laws.rank_total) (on_total (λ (one : R × K). one.1) laws.key_total))
             (exact_pairs rank_cmp key_cmp laws.ranks_exact laws.keys_exact) order
 
-    -- an order without a key, and the first one
+    -- an empty order, and its first key
     pub order_empty : ((rank : R) (key : K) → contains (ranked_cmp rank_cmp key_cmp) order (rank, key) ≡ false) → (key : K) → ranks key ≡ None
     order_empty none key = cases (ranks key) refl
       where

@@ -1,4 +1,10 @@
-//! How the values of keys change, and the order of their ranks with them.
+//! Changes of values, and with them of the order of ranks.
+//!
+//! Source: Cormen, Leiserson, Rivest and Stein, "Introduction to Algorithms", section 6.5. A key
+//! whose rank changes is removed from the ordered set and inserted with its new rank; if the rank
+//! stays the same the set is not changed. Invariant (`IsOrder`): the set has exactly the pairs of a
+//! rank and a key that has it. Callers rely on it after each change, and on the value that a key
+//! had before. After an error no clause says what the values and the order are.
 
 ghost use Rattle.std.specs.Prelude.{◌≡◌, ◌+◌, ◌<◌, Option, Some, None, is_some, slice_get, if◌then◌else◌, IfOk, OnOk};
 ghost use Rattle.std.specs.Option.{option_map_or};
@@ -11,7 +17,7 @@ use std::alloc::{AllocError, Global};
 use std::collections::BTreeSet;
 use std::hash::Hash;
 
-// Sets the value of a key; hands back what it was.
+// Sets the value of a key; returns the value it had.
 fn set_value<K: Ord + Hash + Drop, V: Copy, R: Ord, P: Ranking<K, V, R>>(
     alloc: Global,
     values: &mut IndexMap<K, V>,
@@ -45,7 +51,7 @@ fn rank_of<K: Ord, V: Copy, R: Ord + Copy, P: Ranking<K, V, R>>(
     }
 }
 
-// A key, whose rank is given, is in an order no more; hands back the key.
+// Removes a key, whose rank is given, from an order; returns the key.
 fn unrank<K: Ord + Drop, V, R: Ord + Copy, P: Ranking<K, V, R>>(
     order: &mut BTreeSet<(R, K)>,
     key: K,
@@ -65,7 +71,7 @@ fn unrank<K: Ord + Drop, V, R: Ord + Copy, P: Ranking<K, V, R>>(
     }
 }
 
-// A key that has no rank gets one, or none.
+// Adds a key that has no rank to an order if it is given a rank.
 fn rank<K: Ord + Drop, V, R: Ord + Copy, P: Ranking<K, V, R>>(
     order: &mut BTreeSet<(R, K)>,
     key: K,
@@ -80,7 +86,7 @@ fn rank<K: Ord + Drop, V, R: Ord + Copy, P: Ranking<K, V, R>>(
     Ok(())
 }
 
-// A key that had a rank, or none, gets another one, or none.
+// Changes the rank of a key in an order; either rank may be none.
 fn rerank<K: Ord + Drop, V: Copy, R: Ord + Copy, P: Ranking<K, V, R>>(
     alloc: Global,
     order: &mut BTreeSet<(R, K)>,
@@ -99,7 +105,7 @@ fn rerank<K: Ord + Drop, V: Copy, R: Ord + Copy, P: Ranking<K, V, R>>(
     rank::<K, V, R, P>(order, taken, after)
 }
 
-/// Sets the value of a key, and with it its rank; hands back the value before.
+/// Sets the value of a key, and with it the rank; returns the value it had.
 pub(crate) fn put<K: Ord + Hash + Drop, V: Copy, R: Ord + Copy, P: Ranking<K, V, R>>(
     alloc: Global,
     values: &mut IndexMap<K, V>,
@@ -119,7 +125,7 @@ pub(crate) fn put<K: Ord + Hash + Drop, V: Copy, R: Ord + Copy, P: Ranking<K, V,
     Ok(before)
 }
 
-/// A key has no value any more, and no rank; hands back the value before.
+/// Removes the value of a key, and its rank; returns the value it had.
 pub(crate) fn take<K: Ord + Hash + Drop, V: Copy, R: Ord + Copy, P: Ranking<K, V, R>>(
     values: &mut IndexMap<K, V>,
     order: &mut BTreeSet<(R, K)>,
@@ -143,7 +149,7 @@ pub(crate) fn take<K: Ord + Hash + Drop, V: Copy, R: Ord + Copy, P: Ranking<K, V
     }
 }
 
-// The key at an index gets the rank that it has with another value.
+// Gives the key at an index the rank that it has with another value.
 fn rerank_at<K: Ord + Hash + Drop, V: Copy, R: Ord + Copy, P: Ranking<K, V, R>>(
     alloc: Global,
     values: &IndexMap<K, V>,
@@ -201,7 +207,7 @@ fn rank_at<K: Ord + Hash, V: Copy, R: Ord + Copy, P: Ranking<K, V, R>>(
     }
 }
 
-/// The key at an index has no value any more, and no rank.
+/// Removes the value of the key at an index, and its rank.
 pub(crate) fn take_at<K: Ord + Hash + Drop, V: Copy, R: Ord + Copy, P: Ranking<K, V, R>>(
     values: &mut IndexMap<K, V>,
     order: &mut BTreeSet<(R, K)>,

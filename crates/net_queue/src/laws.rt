@@ -1,11 +1,11 @@
-//! What holds of the order of a queue.
+//! Laws of the order of a queue.
 
 ghost use Rattle.std.specs.Prelude.{◌≡◌, ◌++◌, ◌∷◌, Bool, true, false, Option, Some, List};
 ghost use Rattle.std.specs.List.{list_any};
 ghost use Rattle.net_queue.specs.Queue.{AreRanked, IsBest};
 
-/// Of the keys that pass a test the first in the order is the best; where none passes that stands
-/// there, none that passes has a rank.
+/// The first key in the order that passes a test is the best of those that pass; if no key in the
+/// order passes, none that passes has a rank.
 pub fn the_first_that_passes_is_best<K: Ord, R: Ord>()
     ensures best { (ranks : K → Option R) (passes : K → Bool) (before after : List (R × K))
         (found : R × K) → AreRanked R.cmp K.cmp ranks (before ++ found ∷ after)

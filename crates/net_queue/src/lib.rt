@@ -1,11 +1,12 @@
 //! A priority queue whose values are found by key.
 //!
-//! Each key has one value at most, and a value may have a rank: what a `Ranking` makes of a key and
-//! its value. Keys are found by hash, and walked in the order of their ranks, the least first and of
-//! equal ones the least key; a key whose value has no rank is known and not walked.
+//! Each key has at most one value, and a value may have a rank, computed by a `Ranking` from the
+//! key and its value. Keys are looked up by hash, and traversed in the order of their ranks: the
+//! least rank first, and of equal ranks the least key. A key whose value has no rank can be looked
+//! up, but is not in the order.
 //!
 //! Source: Cormen, Leiserson, Rivest and Stein, "Introduction to Algorithms", section 6.5 (priority
-//! queues whose keys change); the hash map beside the ordered set is the project's own. Contracts
+//! queues whose keys change); the hash map next to the ordered set is the project's own. Contracts
 //! see a queue as the list of its keys and values (`specs/Queue.antt`); `laws` says which key is
 //! best.
 #![tactic(auto)]

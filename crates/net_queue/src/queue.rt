@@ -1,4 +1,9 @@
-//! Queues.
+//! The priority queue: a hash map of values, and an ordered set of the keys that have a rank.
+//!
+//! Source: Cormen, Leiserson, Rivest and Stein, "Introduction to Algorithms", section 6.5.
+//! Invariant: the ordered set has exactly the pairs of a rank and a key that has it (`IsOrder`).
+//! Callers rely on `get` for the value that was set last, on `order` to list the ranked keys in
+//! rising order, and on `first` for the least of them. After an error the queue is empty.
 
 ghost use Rattle.std.specs.Prelude.{◌≡◌, ◌+◌, ◌<◌, Option, Some, None, is_some, slice_get, List, [], length, if◌then◌else◌, IfOk, OnOk, OnErr};
 ghost use Rattle.std.specs.Option.{option_map};
@@ -34,7 +39,7 @@ impl<K: Ord + Hash + Drop, V: Copy, R: Ord + Copy, P: Ranking<K, V, R>> Model
 }
 
 impl<K: Ord + Hash + Drop, V: Copy, R: Ord + Copy, P: Ranking<K, V, R>> Queue<K, V, R, P> {
-    /// No key has a value; takes no memory.
+    /// A queue in which no key has a value. Allocates nothing.
     pub fn new(alloc: Global) -> Queue<K, V, R, P>
         ensures { result ≡ [] }
     {
@@ -45,7 +50,7 @@ impl<K: Ord + Hash + Drop, V: Copy, R: Ord + Copy, P: Ranking<K, V, R>> Queue<K,
         }
     }
 
-    /// How many keys have a value.
+    /// The number of keys that have a value.
     pub fn len(&self) -> usize
         ensures { result ≡ length self.now }
     {
@@ -59,14 +64,14 @@ impl<K: Ord + Hash + Drop, V: Copy, R: Ord + Copy, P: Ranking<K, V, R>> Queue<K,
         self.values.get(key).copied()
     }
 
-    /// The keys with their values, to look one up by what stands for it.
+    /// The keys with their values, to look one up by index or by a borrowed form of the key.
     pub fn values(&self) -> &IndexMap<K, V>
         ensures { result.now.entries ≡ self.now }
     {
         &self.values
     }
 
-    /// The keys that have a rank, each behind its rank: the least rank first, of equal ones the
+    /// The keys that have a rank, each with its rank: the least rank first, and of equal ranks the
     /// least key.
     pub fn order(&self) -> &BTreeSet<(R, K)>
         ensures { AreRanked R.cmp K.cmp (rank_in K.eq P.rank_of self.now) result.now.keys }
@@ -75,7 +80,7 @@ impl<K: Ord + Hash + Drop, V: Copy, R: Ord + Copy, P: Ranking<K, V, R>> Queue<K,
         &self.order
     }
 
-    /// The key of the least rank, of equal ones the least; none, where no key has a rank.
+    /// The key of least rank, and of equal ranks the least key; none if no key has a rank.
     pub fn first(&self) -> Option<&K>
         ensures { IsFirst R.cmp K.cmp (rank_in K.eq P.rank_of self.now)
             (option_map (λ key. key.now) result) }
@@ -86,8 +91,8 @@ impl<K: Ord + Hash + Drop, V: Copy, R: Ord + Copy, P: Ranking<K, V, R>> Queue<K,
         }
     }
 
-    /// Sets the value of a key; hands back what it was, if it had one. An error only for want of
-    /// memory, and then the queue is empty.
+    /// Sets the value of a key; returns the value it had, if any. After an error the queue is
+    /// empty.
     pub fn set(&mut self, alloc: Global, key: &K, value: V) -> Result<Option<V>, AllocError>
         ensures before { IfOk result (λ before. before ≡ value_in K.eq self.old key.now) }
         ensures values { OnOk result ((other : K) → value_in K.eq self.new other
@@ -104,7 +109,7 @@ impl<K: Ord + Hash + Drop, V: Copy, R: Ord + Copy, P: Ranking<K, V, R>> Queue<K,
         }
     }
 
-    /// A key has no value any more; hands back what it was, if it had one.
+    /// Removes the value of a key; returns the value it had, if any.
     pub fn remove(&mut self, key: &K) -> Option<V>
         ensures before { result ≡ value_in K.eq self.old key.now }
         ensures values { (other : K) → value_in K.eq self.new other
@@ -114,8 +119,7 @@ impl<K: Ord + Hash + Drop, V: Copy, R: Ord + Copy, P: Ranking<K, V, R>> Queue<K,
         take::<K, V, R, P>(&mut self.values, &mut self.order, key)
     }
 
-    /// Sets the value of the key at an index of `values`. An error only for want of memory, and then
-    /// the queue is empty.
+    /// Sets the value of the key at an index of `values`. After an error the queue is empty.
     pub fn set_index(&mut self, alloc: Global, index: usize, value: V) -> Result<(), AllocError>
         requires { index < length self.old }
         ensures values { OnOk result ((key : K) (before : V) → slice_get self.old index
@@ -133,7 +137,7 @@ impl<K: Ord + Hash + Drop, V: Copy, R: Ord + Copy, P: Ranking<K, V, R>> Queue<K,
         }
     }
 
-    /// The key at an index of `values` has no value any more.
+    /// Removes the value of the key at an index of `values`.
     pub fn remove_index(&mut self, index: usize)
         ensures { (key : K) (before : V) → slice_get self.old index ≡ Some (key, before)
             → (other : K) → value_in K.eq self.new other
@@ -142,7 +146,7 @@ impl<K: Ord + Hash + Drop, V: Copy, R: Ord + Copy, P: Ranking<K, V, R>> Queue<K,
         take_at::<K, V, R, P>(&mut self.values, &mut self.order, index)
     }
 
-    /// No key has a value any more.
+    /// Removes all values.
     pub fn clear(&mut self)
         ensures { self.new ≡ [] }
     {

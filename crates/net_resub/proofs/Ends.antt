@@ -1,4 +1,5 @@
--- Steps lead to one end: the best division is one, and where no division saves a literal there is no step.
+-- Steps lead to a single end: the best division is unique, and if no division saves a literal there
+-- is no step.
 use Rattle.std.proofs.Common.{◌≡◌, ℕ, List, sym, ap, ap₂, ◌∙◌, inl, inr}
 use Rattle.circuit_model.specs.Counts.{literals_of}
 use Rattle.circuit_model.specs.declared.circuit.Table.{Table}
@@ -9,7 +10,7 @@ use Rattle.net_candidates.specs.Candidates.{ArePair}
 use Rattle.net_candidates.proofs.Sums.{same_or_pair}
 use Rattle.net_resub.specs.Resubbed.{with_resubbed, literals_after, Choice, IsCandidate, IsEarlier, IsBest, IsStep, IsDone, IsResubbed}
 
--- members of a list of which neither stands before the other are the same
+-- items of a list of which neither comes before the other are the same
 neither_earlier : {X : Type 0} (xs : List X) (x y : X) → Has x xs → Has y xs → (ArePair xs x y → ⊥) → (ArePair xs y x → ⊥) → x ≡ y
 neither_earlier xs x y m n h k =
     elim (same_or_pair xs x y m n) as (λ _. x ≡ y) [
@@ -18,7 +19,7 @@ neither_earlier xs x y m n h k =
       | inr (inr pair) ↦ absurd (k pair)
     ]
 
--- the best division is one
+-- the best division is unique
 module _ (circuit : Circuit) where
   abbrev Made : Choice → Type 0
   Made one = IsCandidate circuit one.0 one.1
@@ -41,7 +42,7 @@ module _ (circuit : Circuit) where
   pub best_table : (by table other_by other : Table) → IsBest circuit by table → IsBest circuit other_by other → table ≡ other
   best_table by table other_by other best second = ap (λ (one : Choice). one.1) (best_one by table other_by other best second)
 
-  -- where no division saves there is no step
+  -- if no division saves a literal there is no step
   done_no_step : IsDone circuit → (new : Circuit) → IsStep circuit new → ⊥
   done_no_step done new step = none_best Made (IsEarlier circuit) left (literals_of circuit) done (step.by, step.table) step.best
 

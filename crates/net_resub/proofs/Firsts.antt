@@ -20,19 +20,19 @@ division_total = then_total (on_total (λ (division : Division). division.place)
 below : (x y : ℕ) → x < y → nat_cmp x y ≡ Less
 below x y lt = ap (λ (b : Bool). cond b Less (cond (eqb x y) Equal Greater)) (lt-ltb x y lt)
 
--- places that stand before others
+-- a pair of indices before another one
 ahead_less : (one other : Division) → IsAhead one.place one.by other → division_cmp one other ≡ Less
 ahead_less one other (inl lt) = ap (λ o. ordering_then o (nat_cmp one.by other.by)) (below one.place other.place lt)
 ahead_less one other (inr (same, lt)) =
     ap (λ (place : ℕ). ordering_then (nat_cmp place other.place) (nat_cmp one.by other.by)) same
     ∙ (ap (λ o. ordering_then o (nat_cmp one.by other.by)) (tied_itself nat_cmp_total other.place) ∙ below one.by other.by lt)
 
--- the ranks of divisions that are kept
+-- the ranks of the divisions in the queue
 abbrev pub ranks_in : List (Division × ℕ) → Division → Option (Reverse ℕ)
 ranks_in entries division = rank_in is_of rank_of entries division
 
 module _ (led : ℕ → ℕ → Bool) where
-  -- that a division may be made
+  -- whether a division may be made
   abbrev pub May : Division → Type 0
   May division = led division.by division.place ≡ false
 

@@ -1,4 +1,5 @@
--- The graph of places: what a place reads, and that walks over it are the ways from signal to signal.
+-- The graph of indices: what an index reads, and that its walks are the paths from signal to
+-- signal.
 use Rattle.std.proofs.Common.{◌≡◌, ℕ, ◌+◌, ◌<◌, ◌≤◌, zero, suc, Bool, true, false, ◌||◌, cond, Option, Some, None, is_some, IfSome, List, [], ◌∷◌, ◌++◌, length, take, drop, append_assoc, append-nil, map, bytes_eq, get_or, option_to_list, All, refl, sym, ap, ◌∙◌, subst, inl, inr, arith, eqb, eqb-true}
 use Rattle.std.specs.Option.{option_map}
 use Rattle.std.proofs.lemmas.Bool.{false≢true, or_cases, eq-eqb}
@@ -19,12 +20,12 @@ use Rattle.net_resub.specs.Best.{is_led}
 use Rattle.net_resub.specs.Reaching.{place_named, places_named, graph_of, ReadsAll}
 use Rattle.net_resub.proofs.Slots.{there_named, later_apart, drives_at, place_within}
 
--- the place of a name
+-- the index of a name
 stepped : (found : Option ℕ) (place : ℕ) → option_map suc found ≡ Some place → (one : ℕ) × (found ≡ Some one) × (suc one ≡ place)
 stepped None place e = absurd (none-some place e)
 stepped (Some one) place e = (one, refl, same_Some (suc one) place e)
 
--- the table at a place drives a name
+-- the table at an index drives a name
 abbrev pub IsNamed : List (Option Table) → List ℕ → ℕ → Type 0
 IsNamed slots name place = (table : Table) × (table_at slots place ≡ Some table) × (table.output ≡ name)
 
@@ -58,13 +59,13 @@ named_here (Some first ∷ slots) different (suc place) table there =
     (name_not table.output first.output (later_apart first slots place table different there))
     ∙ ap (option_map suc) (named_here slots (different_tail first.output (outputs_of (standing slots)) different) place table there)
 
--- a name has one place
+-- a name has one index
 pub one_place : (slots : List (Option Table)) → all_different (outputs_of (standing slots)) ≡ true → (one other : ℕ) (table second : Table)
     → table_at slots one ≡ Some table → table_at slots other ≡ Some second → table.output ≡ second.output → one ≡ other
 one_place slots different one other table second here there same =
     same_Some one other (sym (named_here slots different one table here) ∙ ap (place_named slots) same ∙ named_here slots different other second there)
 
--- what is found for a name is its place
+-- what is found for a name is its index
 pub found_is : (slots : List (Option Table)) (name : List ℕ) (found : Option ℕ) → all_different (outputs_of (standing slots)) ≡ true → IfSome found (IsNamed slots name)
     → is_some found ≡ has (outputs_of (standing slots)) name → found ≡ place_named slots name
 found_is slots name (Some place) different (table, there, same) known = sym (subst (λ (n : List ℕ). place_named slots n ≡ Some place) same (named_here slots different place table there))
@@ -76,7 +77,7 @@ found_is slots name None different there known = cases (place_named slots name) 
         let (table, at, same) = named_there slots name place e in
         absurd (false≢true (known ∙ subst (λ (n : List ℕ). has (outputs_of (standing slots)) n ≡ true) same (there_named slots place table at)))
 
--- what a place reads
+-- what an index reads
 reads_in : (slots others : List (Option Table)) (place : ℕ) → get_or (map (λ slot. places_named slots (inputs_in slot)) others) place [] ≡ places_named slots (inputs_at others place)
 reads_in slots [] place = refl
 reads_in slots (slot ∷ others) zero = refl
@@ -105,7 +106,7 @@ right : (a b : Bool) → b ≡ true → (a || b) ≡ true
 right true b e = refl
 right false b e = e
 
--- one of the names is that of a place
+-- one of the names is that of an index
 abbrev pub IsNameOf : List (Option Table) → List (List ℕ) → ℕ → Type 0
 IsNameOf slots names place = (name : List ℕ) × (has names name ≡ true) × (place_named slots name ≡ Some place)
 
@@ -129,7 +130,7 @@ names_among slots (first ∷ names) name place m at =
       | inr e ↦ right (is_among (option_to_list (place_named slots first)) place) (is_among (places_named slots names) place) (names_among slots names name place e at)
     ]
 
--- ways from signal to signal
+-- paths from signal to signal
 driver_place : (slots : List (Option Table)) (name : List ℕ) (table : Table) → driver (standing slots) name ≡ Some table → (place : ℕ) × (table_at slots place ≡ Some table)
 unfolding driver standing
 driver_place [] name table e = absurd (none-some table e)
@@ -204,7 +205,7 @@ graph_is slots = λ k d below.
     subst (λ (ps : List ℕ). All (λ place. place < length (graph_of slots)) ps) (sym is)
     (λ i e within. let low = named_below slots names (get_or (places_named slots names) i e) (at_among (places_named slots names) i e within) in omega (arith, low, graph_long slots))
 
--- what it says of places is what is led to
+-- indices lead to each other exactly if their signals do
 pub led_leads : (slots : List (Option Table)) → all_different (outputs_of (standing slots)) ≡ true → (from to : ℕ) (table last : Table) → table_at slots from ≡ Some table → table_at slots to ≡ Some last
     → is_led slots from to ≡ true → (steps : ℕ) × Leads (standing slots) (suc steps) table.output last.output
 led_leads slots different from to table last here there led =
@@ -216,7 +217,7 @@ pub leads_led : (slots : List (Option Table)) → all_different (outputs_of (sta
 leads_led slots different from to table last here there steps led =
     led_from_walk (graph_of slots) (graph_is slots) steps from to (leads_walk slots different (suc steps) from to table last here there led)
 
--- where a table reads all that another one reads, that one does not lead to it
+-- a table does not lead to one that reads all that it reads
 pub all_unled : (slots : List (Option Table)) → all_different (outputs_of (standing slots)) ≡ true → IsAcyclic (standing slots) → (place by : ℕ) → ReadsAll slots place by → is_led slots by place ≡ false
 unfolding IsAcyclic Leads
 all_unled slots different acyclic place by reads = cases (is_led slots by place) refl
@@ -229,7 +230,7 @@ all_unled slots different acyclic place by reads = cases (is_led slots by place)
         absurd (acyclic reads.table.output steps
         (reads.table, drives_at slots different place reads.table reads.here, next, reads.all next (ap (λ (t : Table). has t.inputs next) same ∙ among), rest))
 
--- one name more of which all are among others
+-- one more name of those that are all among others
 pub among_next : (names others : List (List ℕ)) (i : ℕ) (name : List ℕ) → i < length names → name ≡ get_or names i name → ((one : List ℕ) → has (take i names) one ≡ true → has others one ≡ true)
     → has others name ≡ true → (one : List ℕ) → has (take (i + 1) names) one ≡ true → has others one ≡ true
 among_next names others i name below is each this one m =
@@ -239,7 +240,7 @@ among_next names others i name below is each this one m =
       | inr k ↦ elim (or_cases (bytes_eq one name) false k) as (λ _. has others one ≡ true) [ inl e ↦ ap (has others) (same_name one name e) ∙ this | inr e ↦ absurd (false≢true e) ]
     ]
 
--- the places of names, one after the other
+-- the indices of names, one after the other
 pub places_next : (slots : List (Option Table)) (names : List (List ℕ)) (i : ℕ) (name : List ℕ) (places new whole : List ℕ) (found : Option ℕ) → i < length names → name ≡ get_or names i name
     → found ≡ place_named slots name → new ≡ places ++ option_to_list found → places ++ places_named slots (drop i names) ≡ whole → new ++ places_named slots (drop (i + 1) names) ≡ whole
 places_next slots names i name places new whole found below is at put all =

@@ -1,4 +1,5 @@
--- The divisions that are kept: all of them at the start, those with a table that leave and come, and the lists of tables.
+-- The divisions in the queue: all of them at the start; those with a table, which are removed and
+-- added; and the lists of tables.
 use Rattle.std.proofs.Common.{◌≡◌, ℕ, ◌+◌, ◌≤◌, ◌==◌, Bool, true, false, ◌||◌, ◌&&◌, not, cond, ltb, eqb-true, Option, Some, List, [], set, length, refl, sym, ap, ◌∙◌, subst, arith}
 use Rattle.std.proofs.lemmas.Bool.{lt-ltb, le-ltb, eqb-false, or_parts, not-true, ltb-true, ltb-false}
 use Rattle.circuit_model.specs.declared.circuit.Table.{Table}
@@ -14,7 +15,7 @@ use Rattle.net_resub.proofs.Slots.{place_within}
 use Rattle.net_resub.proofs.Saving.{saving_places}
 use Rattle.net_resub.proofs.Sets.{just_none, just_told, just_moved}
 
--- ---- all divisions, those by the first tables before
+-- ---- all divisions by the first tables
 
 pub all_none : (slots : List (Option Table)) (divisions : List (Division × ℕ)) → divisions ≡ [] → HasJust (λ division. ltb division.by 0) (saving_at slots) divisions
 all_none slots divisions none =
@@ -61,7 +62,7 @@ come_whole slots place pairs divisions are =
     either true = refl
     either false = refl
 
--- ---- a table gives place to another one
+-- ---- a table is replaced by another one
 
 table_stays : (slots : List (Option Table)) (place : ℕ) (slot : Option Table) (at : ℕ) → (at ≡ place → ⊥) → table_at (set slots place slot) at ≡ table_at slots at
 table_stays slots place slot at apart = ap joined (get_set_other slots place at slot apart)

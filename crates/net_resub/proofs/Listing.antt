@@ -1,4 +1,4 @@
--- Places in lists under names: one more, those under some names, and the tables at places.
+-- Indices in lists under names: one more, those under some names, and the indices of tables.
 use Rattle.std.proofs.Common.{◌≡◌, ℕ, ◌+◌, ◌-◌, ◌<◌, ◌≤◌, ◌==◌, ◌↔◌, Bool, true, false, ◌||◌, not, Option, Some, None, List, [], ◌∷◌, ◌++◌, length, get_or, slice_get, take, bytes_eq, eqb, ltb, eqb-true, refl, sym, ap, ◌∙◌, subst, inl, inr, arith}
 use Rattle.std.specs.Prelude.{IsTrue}
 use Rattle.std.specs.List.{last_or}
@@ -17,7 +17,7 @@ use Rattle.net_resub.specs.Listed.{IsNeeded, HasPut, HasPutUnder, AreJoined, IsL
 use Rattle.net_resub.specs.declared.listed.DivisorLists.{DivisorLists}
 use Rattle.net_resub.proofs.Slots.{place_within}
 
--- places behind others
+-- indices after others
 pub in_append : (xs ys : List ℕ) (at : ℕ) → is_in (xs ++ ys) at ≡ (is_in xs at || is_in ys at)
 in_append xs ys at = list_any-append (λ (other : ℕ). eqb other at) xs ys
 
@@ -30,7 +30,7 @@ in_back xs ys at m = in_append xs ys at ∙ or_right (is_in xs at) (is_in ys at)
 pub one_in : (place : ℕ) → is_in (place ∷ []) place ≡ true
 one_in place = ap (λ (b : Bool). b || false) (eq-eqb place place refl)
 
--- the last place of some
+-- the last index of some
 last_from : (before : Option ℕ) (x : ℕ) (xs : List ℕ) → last_or before (x ∷ xs) ≡ slice_get (x ∷ xs) (length xs)
 last_from before x [] = refl
 last_from before x (y ∷ ys) = last_from (Some x) y ys
@@ -106,7 +106,7 @@ named_listed test slots old new place table name there needed keeps put are = on
     here : (one : Table) → table_at slots place ≡ Some one → IsListed new place one
     here one at = inr (name, subst (λ (t : Table). IsNeeded (row_cubes t) name) (same_Some table one (sym there ∙ at)) needed, put.here)
 
--- the tables at the first places
+-- the tables at the first indices
 pub listed_more : (slots : List (Option Table)) (lists : DivisorLists) (count : ℕ) → AreListed (λ at. ltb at count || count == at) slots lists → AreListed (λ at. ltb at (count + 1)) slots lists
 listed_more slots lists count are at table below there = are at table (cases (ltb at count) refl) there
   where

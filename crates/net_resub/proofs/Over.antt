@@ -1,4 +1,4 @@
--- Whether all literals of a row are of some names, place by place.
+-- Whether all literals of a row have one of some names, column by column.
 use Rattle.std.proofs.Common.{◌≡◌, ◌<◌, ◌≤◌, ℕ, zero, suc, Bool, true, false, ◌&&◌, ◌||◌, not, Option, Some, None, List, [], ◌∷◌, length, map, drop, refl, sym, ap, ◌∙◌, arith, inl, inr}
 use Rattle.std.specs.Prelude.{slice_index_or, is_some}
 use Rattle.std.specs.List.{list_all, list_any}
@@ -18,7 +18,7 @@ unfolding cube_over
 none_over names [] = refl
 none_over names (input ∷ inputs) = refl
 
--- what is left of a row from a place on
+-- the rest of a row from a column on
 abbrev pub rest_over : List (List ℕ) → List (List ℕ) → List (Option Bool) → ℕ → Bool
 rest_over names inputs row i = is_cube_over names (cube_over (drop i inputs) (drop i row))
 
@@ -41,7 +41,7 @@ one_more names (input ∷ inputs) (Some bit ∷ row) zero none below = refl
 one_more names (input ∷ inputs) [] (suc i) none below = none_over names (drop i inputs) ∙ sym (none_over names (drop (suc i) inputs))
 one_more names (input ∷ inputs) (item ∷ row) (suc i) none below = one_more names inputs row i none (omega (arith, below))
 
--- the step of a loop over places, where the answer at the place is known
+-- the step of a loop over columns, if the result for the column is known
 pub told_more : (names inputs : List (List ℕ)) (row : List (Option Bool)) (i : ℕ) (input : List ℕ) (item : Option Bool) (answer : Bool) (next : ℕ) → next ≡ suc i → i < length inputs → input ≡ slice_index_or inputs i input
     → item ≡ slice_index_or row i None → answer ≡ (not (is_some item) || has names input) → rest_over names inputs row i ≡ (answer && rest_over names inputs row next)
 told_more names inputs row i input item answer next after below is at told =
@@ -51,7 +51,7 @@ told_more names inputs row i input item answer next after below is at told =
     ∙ (ap (λ (o : Option Bool). not (is_some o) || has names input) (sym at) ∙ sym told))
     ∙ ap (λ (k : ℕ). answer && rest_over names inputs row k) (sym after))
 
--- what is left of a list from a place on
+-- the rest of a list from an index on
 all_done : {A : Type 0} (p : A → Bool) (xs : List A) (i : ℕ) → length xs ≤ i → list_all p (drop i xs) ≡ true
 all_done p [] zero long = refl
 all_done p (x ∷ xs) zero long = absurd (omega (arith, long))
@@ -63,7 +63,7 @@ all_more p [] i none below = absurd (omega (arith, below))
 all_more p (x ∷ xs) zero none below = refl
 all_more p (x ∷ xs) (suc i) none below = all_more p xs i none (omega (arith, below))
 
--- whether all literals of the rows from a place on are of some names
+-- whether all literals of the rows from an index on have one of some names
 abbrev pub rows_over : {R : Type 0} → (R → List (Option Bool)) → List (List ℕ) → List (List ℕ) → List R → ℕ → Bool
 rows_over literals names inputs rows i = list_all (λ row. is_cube_over names (cube_over inputs (literals row))) (drop i rows)
 
@@ -98,7 +98,7 @@ entry_over literals names inputs rows by same items =
     written_over literals names inputs rows by.table.cover.rows items
     ∙ ap (λ (is : List (List ℕ)). is_over names (map (λ row. cube_over is (places_of row)) (map characters_of by.table.cover.rows))) same
 
--- names that all literals of rows are of have that of a literal
+-- names that include those of all literals of the rows include that of one literal
 row_needs : (names inputs : List (List ℕ)) (row : List (Option Bool)) (i : ℕ) (none : List ℕ) → i < length inputs → is_some (slice_index_or row i None) ≡ true → is_cube_over names (cube_over inputs row) ≡ true
     → has names (slice_index_or inputs i none) ≡ true
 unfolding cube_over
@@ -127,7 +127,7 @@ pub entry_needs : {R S : Type 0} (literals : R → List (Option Bool)) (inputs :
 entry_needs literals inputs rows by i name same items below is some names over =
     ap (has names) is ∙ rows_need literals names inputs rows i name below some (entry_over literals names inputs rows by same items ∙ over)
 
--- a row with no literal at any place of the inputs is of any names
+-- a row with no literal in any column of the inputs is over any names
 row_none : (names inputs : List (List ℕ)) (row : List (Option Bool)) → ((i : ℕ) → i < length inputs → is_some (slice_index_or row i None) ≡ false) → is_cube_over names (cube_over inputs row) ≡ true
 unfolding cube_over
 row_none names [] row empty = refl
@@ -145,7 +145,7 @@ rows_none {R} literals names inputs (row ∷ rows) empty =
     both : (i : ℕ) → i < length inputs → (is_some (slice_index_or (literals row) i None) ≡ false) × (list_any (λ (one : R). is_some (slice_index_or (literals one) i None)) rows ≡ false)
     both i below = or_parts (is_some (slice_index_or (literals row) i None)) (list_any (λ (one : R). is_some (slice_index_or (literals one) i None)) rows) (empty i below)
 
--- where no row has a literal at any place of the inputs, the literals are of no names
+-- if no row has a literal in any column of the inputs, the rows are over no names
 pub entry_none : {R S : Type 0} (literals : R → List (Option Bool)) (inputs : List (List ℕ)) (rows : List R) (by : Entry S) → inputs ≡ by.table.inputs → map literals rows ≡ by.table.cover.rows
     → ((i : ℕ) → i < length inputs → list_any (λ row. is_some (slice_index_or (literals row) i None)) rows ≡ false) → is_over [] (row_cubes (written_of by)) ≡ true
 entry_none literals inputs rows by same items empty = sym (entry_over literals [] inputs rows by same items) ∙ rows_none literals [] inputs rows empty

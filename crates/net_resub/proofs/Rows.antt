@@ -1,4 +1,4 @@
--- The cubes of rows that are read one after the other, and what is made of a table.
+-- The cubes of rows that are read one after the other, and the table that is made.
 use Rattle.std.proofs.Common.{◌≡◌, ◌≤◌, ℕ, Bool, Option, Some, None, IfSome, List, [], ◌∷◌, map, length, take, refl, sym, ap, ◌∙◌, subst}
 use Rattle.std.proofs.lemmas.List.{take_all}
 use Rattle.std.proofs.lemmas.Option.{same_Some}
@@ -31,7 +31,7 @@ some_weaker P Q (Some a) more h = more a h
 pub some_told : {A : Type 0} (found : Option A) (made : A) (P : A → Type 0) → found ≡ Some made → IfSome found P → P made
 some_told {A} found made P is told = subst (λ (o : Option A). IfSome o P) is told
 
--- what is made of an entry is what is made of the table at its place
+-- what is made of an entry is what is made of the table at its index
 pub divided_is : {R : Type 0} (slots : List (Option Table)) (place by : ℕ) (entry divisor : Entry R) (made : CoverTable R) → Some (written_of entry) ≡ table_at slots place → Some (written_of divisor) ≡ table_at slots by
     → named entry.output made ≡ resubbed (written_of divisor) (written_of entry) → (table other : Table) → table_at slots place ≡ Some table → table_at slots by ≡ Some other
     → named table.output made ≡ resubbed other table

@@ -1,4 +1,5 @@
--- A table is divided by another one: the circuit stays sound, no signal goes, and each keeps its value; so it is from step to step.
+-- A table is divided by another one: the circuit stays sound, no signal is removed, and each keeps
+-- its value; so does each sequence of steps.
 use Rattle.std.proofs.Common.{◌≡◌, ℕ, Bool, true, false, ◌||◌, cond, Some, List, [], ◌∷◌, ◌++◌, map, refl, sym, ap, ap₂, ◌∙◌, subst, inl, inr}
 use Rattle.std.proofs.lemmas.Bool.{false≢true, and_from}
 use Rattle.sis_base.specs.Rows.{agrees, some_matches, phase_value, value_by_phase}
@@ -48,7 +49,7 @@ phase_agrees true matched = refl
 phase_agrees false true = refl
 phase_agrees false false = refl
 
--- where a signal has its table's value, its literal by the table's phase is worth what the cubes are
+-- if a signal has its table's value, its literal in the table's phase has the value of the cubes
 literal_worth : (table : Table) (value : List ℕ → Bool) → value table.output ≡ driven_value (Some table) value → agrees (Some table.phase) (value table.output) ≡ cover_value value (row_cubes table)
 unfolding table_value value_by_phase
 literal_worth table value stands =
@@ -56,9 +57,9 @@ literal_worth table value stands =
     ∙ phase_agrees table.phase (some_matches (map places_of table.rows) (map value table.inputs))
     ∙ sym (cubes_worth value table.inputs table.rows)
 
--- ---- tables that stand
+-- ---- the tables of a circuit
 
--- where tables drive different signals each drives its own
+-- if tables drive different signals each drives its own
 member_drives : (tables : List Table) (table : Table) → all_different (outputs_of tables) ≡ true → Has table tables → driver tables table.output ≡ Some table
 unfolding driver
 member_drives [] table different m = absurd m

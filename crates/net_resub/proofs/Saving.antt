@@ -1,4 +1,4 @@
--- What a division saves: where it may be made, and which tables may be divided by which.
+-- What a division saves: when it may be made, and which tables may be divided by which.
 use Rattle.std.proofs.Common.{◌≡◌, ◌≢◌, ℕ, ◌+◌, ◌-◌, ◌<◌, ◌≤◌, zero, suc, Bool, true, false, ◌||◌, cond, ltb, Option, Some, None, List, length, refl, sym, ap, ◌∙◌, arith, eqb, ne_eqb, slice_set}
 use Rattle.std.proofs.lemmas.Bool.{false≢true, le-ltb, ltb-false, eqb-false, eq-eqb}
 use Rattle.std.proofs.lemmas.Option.{same_Some}
@@ -28,11 +28,11 @@ after_is placed place table by different there =
     ap (λ (ts : List Table). literals_of (with_tables placed.frame ts)) (sym (standing_set placed.slots place table new different there (divided_output by.output by.phase (row_cubes by) table))) in
     omega (arith, same, literals_set placed.slots place table new there)
 
--- what a saving tells
+-- consequences of a saving
 pub zero_saving : (n : ℕ) → 0 < n → n ≡ 0 → ⊥
 zero_saving n some none = omega (arith, some, none)
 
--- a saving that is some: the division may be made as far as the two tables tell
+-- a saving above 0: the two tables do not rule out the division
 pub record IsSaving (by table : Table) : Type 0 where
   pub unread : has table.inputs by.output ≡ false
   pub narrow : length (resubbed by table).inputs ≤ MAX_INPUTS
@@ -61,7 +61,7 @@ saving_is by table unread narrow =
     ap (λ (a : Bool). cond {A = ℕ} (a || ltb MAX_INPUTS (length (resubbed by table).inputs)) 0 (literals_of_table table - literals_of_table (resubbed by table))) unread
     ∙ ap (λ (b : Bool). cond {A = ℕ} b 0 (literals_of_table table - literals_of_table (resubbed by table))) (le-ltb MAX_INPUTS (length (resubbed by table).inputs) narrow)
 
--- a table that stays saves nothing
+-- a table that does not change saves nothing
 pub stays_saves : (by table : Table) → resubbed by table ≡ table → saving_of by table ≡ 0
 unfolding saving_of
 stays_saves by table same = cases (has table.inputs by.output || ltb MAX_INPUTS (length (resubbed by table).inputs))
@@ -70,13 +70,13 @@ stays_saves by table same = cases (has table.inputs by.output || ltb MAX_INPUTS 
     cases true = refl
     cases false = let e : literals_of_table (resubbed by table) ≡ literals_of_table table = ap literals_of_table same in omega (arith, e)
 
--- nor does one that reads the other one's signal
+-- nor does one that reads the divisor's signal
 pub read_saves : (by table : Table) → has table.inputs by.output ≡ true → saving_of by table ≡ 0
 unfolding saving_of
 read_saves by table read =
     ap (λ (a : Bool). cond {A = ℕ} (a || ltb MAX_INPUTS (length (resubbed by table).inputs)) 0 (literals_of_table table - literals_of_table (resubbed by table))) read
 
--- what is counted of the table that is made
+-- the count for the table that is made
 pub saved_is : (by table made : Table) (saved : ℕ) → has table.inputs by.output ≡ false → made ≡ resubbed by table
     → saved ≡ cond {A = ℕ} (ltb MAX_INPUTS (length made.inputs)) 0 (literals_of_table table - literals_of_table made) → saved ≡ saving_of by table
 unfolding saving_of
@@ -85,14 +85,14 @@ saved_is by table made saved unread is counted =
     ∙ (ap (λ (t : Table). cond {A = ℕ} (ltb MAX_INPUTS (length t.inputs)) 0 (literals_of_table table - literals_of_table t)) is
     ∙ sym (ap (λ (a : Bool). cond {A = ℕ} (a || ltb MAX_INPUTS (length (resubbed by table).inputs)) 0 (literals_of_table table - literals_of_table (resubbed by table))) unread))
 
--- nor does one that reads not all names of the other one's literals
+-- nor does one that does not read all names of the divisor's literals
 pub unread_saves : (by table : Table) → is_over table.inputs (row_cubes by) ≡ false → saving_of by table ≡ 0
 unread_saves by table apart = stays_saves by table (unread_stays by.output by.phase (row_cubes by) table apart)
 
 pub saving_changes : (by table : Table) → 0 < saving_of by table → resubbed by table ≢ table
 saving_changes by table some same = zero_saving (saving_of by table) some (stays_saves by table same)
 
--- tables at places
+-- tables at indices
 pub record ArePlaced (slots : List (Option Table)) (place by : ℕ) : Type 0 where
   pub table : Table
   pub divisor : Table
@@ -127,7 +127,7 @@ saving_placed slots place by table divisor apart here there =
     ap (λ (b : Bool). cond {A = ℕ} b 0 (saving_between (table_at slots place) (table_at slots by))) (ne_eqb place by apart)
     ∙ (ap (λ (o : Option Table). saving_between o (table_at slots by)) here ∙ ap (saving_between (Some table)) there)
 
--- a table does not divide itself, and where one is none nothing is saved
+-- a table does not divide itself, and if either index has no table nothing is saved
 pub same_saves : (slots : List (Option Table)) (place by : ℕ) → place ≡ by → saving_at slots place by ≡ 0
 unfolding saving_at
 same_saves slots place by same = ap (λ (b : Bool). cond {A = ℕ} b 0 (saving_between (table_at slots place) (table_at slots by))) (eq-eqb place by same)
@@ -149,7 +149,7 @@ saves_by_none slots place by none = cases (eqb place by) (table_at slots place)
     cases false None = refl
     cases false (Some table) = ap (saving_between (Some table)) none
 
--- a worth that is some
+-- a value above 0
 pub worth_some : (slots : List (Option Table)) (place by : ℕ) → 0 < worth_at slots place by → (is_led slots by place ≡ false) × (worth_at slots place by ≡ saving_at slots place by)
 unfolding worth_at
 worth_some slots place by some = cases (is_led slots by place) some refl
@@ -167,7 +167,7 @@ pub unled_whole : (slots : List (Option Table)) (place by : ℕ) → is_led slot
 unfolding worth_at
 unled_whole slots place by unled = ap (λ (b : Bool). cond {A = ℕ} b 0 (saving_at slots place by)) unled
 
--- a division that is worth something may be made
+-- a division of value above 0 may be made
 pub worth_candidate : (placed : Placed) (place by : ℕ) (table divisor : Table) → all_different (outputs_of (standing placed.slots)) ≡ true → table_at placed.slots place ≡ Some table
     → table_at placed.slots by ≡ Some divisor → 0 < worth_at placed.slots place by
     → IsCandidate (circuit_of placed) divisor table × (worth_at placed.slots place by ≡ literals_of_table table - literals_of_table (resubbed divisor table))
@@ -193,7 +193,7 @@ worth_candidate placed place by table divisor different here there some =
     apart away unled zero led = away (sym (one_place placed.slots different by place divisor table there here led))
     apart away unled (suc steps) led = false≢true (sym unled ∙ leads_led placed.slots different by place divisor table there here steps led)
 
--- one that may be made is worth what it saves
+-- the value of a division that may be made is what it saves
 pub candidate_worth : (placed : Placed) (place by : ℕ) (table divisor : Table) → all_different (outputs_of (standing placed.slots)) ≡ true → table_at placed.slots place ≡ Some table
     → table_at placed.slots by ≡ Some divisor → IsCandidate (circuit_of placed) divisor table
     → worth_at placed.slots place by ≡ literals_of_table table - literals_of_table (resubbed divisor table)

@@ -1,4 +1,5 @@
--- Queues of divisions: one division that comes or goes, some one after the other, and other tests that tell the same.
+-- Queues of divisions: one division that is added or removed, some of them one after the other, and
+-- other tests with the same results.
 use Rattle.std.proofs.Common.{◌≡◌, ℕ, ◌+◌, ◌<◌, zero, suc, Bool, true, false, ◌||◌, ◌&&◌, not, cond, Option, None, List, [], ◌∷◌, ◌++◌, length, take, get_or, eqb, eqb-true, refl, sym, ap, ◌∙◌, arith}
 use Rattle.std.proofs.lemmas.Bool.{and_parts}
 use Rattle.std.proofs.lemmas.List.{take_more}
@@ -7,12 +8,12 @@ use Rattle.net_queue.specs.Queue.{value_in}
 use Rattle.net_resub.specs.Divisions.{is_of, is_among, Savings, saving_in, saved, HasJust}
 use Rattle.net_resub.specs.declared.divisions.Division.{Division}
 
--- ---- queues that have just some divisions
+-- ---- queues that have exactly some divisions
 
 pub just_none : (savings : Savings) (entries : List (Division × ℕ)) → entries ≡ [] → HasJust (λ division. false) savings entries
 just_none savings entries none division = ap (λ (entries : List (Division × ℕ)). value_in is_of entries division) none
 
--- a test that tells the same of all divisions that save
+-- a test with the same result for all divisions that save
 pub just_told : (test other : Division → Bool) (savings : Savings) (entries : List (Division × ℕ)) → ((division : Division) → 0 < saving_in savings division → test division ≡ other division)
     → HasJust test savings entries → HasJust other savings entries
 just_told test other savings entries same has division = has division ∙ tells (saving_in savings division) refl
@@ -26,7 +27,7 @@ just_told test other savings entries same has division = has division ∙ tells 
         ap (λ (n : ℕ). cond (test division) (saved n) None) e ∙ (nothing (test division) ∙ sym (ap (λ (n : ℕ). cond (other division) (saved n) None) e ∙ nothing (other division)))
     tells (suc n) e = ap (λ (b : Bool). cond b (saved (saving_in savings division)) None) (same division (omega (arith, e)))
 
--- savings that are the same where the test is true
+-- savings that are the same if the test is true
 pub just_moved : (test : Division → Bool) (savings others : Savings) (entries : List (Division × ℕ)) → ((division : Division) → test division ≡ true → saving_in savings division ≡ saving_in others division)
     → HasJust test savings entries → HasJust test others entries
 just_moved test savings others entries same has division = has division ∙ tells (test division) refl
@@ -35,7 +36,7 @@ just_moved test savings others entries same has division = has division ∙ tell
     tells true e = ap saved (same division e)
     tells false e = refl
 
--- what one division saves another one saves that is the same
+-- equal divisions save the same
 of_one : (savings : Savings) (one division : Division) → is_of one division ≡ true → savings one.place one.by ≡ saving_in savings division
 of_one savings one division is =
     let parts = and_parts (eqb one.place division.place) (eqb one.by division.by) is in
@@ -66,7 +67,7 @@ just_taken test savings before after one out has division = out division ∙ cas
     cases false true h = h
     cases false false h = h
 
--- those at the first places of a list
+-- those at the first indices of a list
 among_more : (pairs : List Division) (i : ℕ) (pair : Division) (division : Division) → i < length pairs → pair ≡ get_or pairs i pair → is_among (take (i + 1) pairs) division ≡ (is_among (take i pairs) division || is_of pair division)
 among_more pairs i pair division below at =
     ap (λ (ps : List Division). is_among ps division) (take_more pairs i pair below ∙ ap (λ (p : Division). take i pairs ++ p ∷ []) (sym at))

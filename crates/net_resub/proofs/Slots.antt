@@ -1,4 +1,4 @@
--- Tables at places: the names that they drive, one that gives place to another one, and two of them in their order.
+-- Tables by index: the names that they drive, one that is replaced, and two of them in their order.
 use Rattle.std.proofs.Common.{◌≡◌, ℕ, ◌+◌, ◌<◌, zero, suc, Bool, true, cond, Option, Some, None, List, [], ◌∷◌, ◌++◌, length, set, refl, sym, ap, ◌∙◌, subst, inl, inr, arith}
 use Rattle.std.specs.List.{AllByRecursion, sum_by}
 use Rattle.std.proofs.lemmas.Bool.{false≢true}
@@ -17,7 +17,7 @@ use Rattle.net_candidates.specs.Candidates.{ArePair}
 use Rattle.net_work.specs.Placed.{standing, table_at}
 use Rattle.circuit_laws.proofs.Among.{own_drivers}
 
--- what a table at a place drives is driven
+-- what a table at an index drives is driven
 pub there_named : (slots : List (Option Table)) (place : ℕ) (table : Table) → table_at slots place ≡ Some table → has (outputs_of (standing slots)) table.output ≡ true
 unfolding standing
 there_named [] place table there = absurd (none-some table there)
@@ -33,7 +33,7 @@ later_apart first slots place table different there same =
     false≢true (sym (different_head first.output (outputs_of (standing slots)) different)
     ∙ subst (λ (n : List ℕ). has (outputs_of (standing slots)) n ≡ true) same (there_named slots place table there))
 
--- what holds of the tables that stand holds at each place
+-- what holds of all tables holds at each index
 pub all_at : (P : Table → Type 0) (slots : List (Option Table)) → AllByRecursion P (standing slots) → (place : ℕ) (table : Table) → table_at slots place ≡ Some table → P table
 unfolding standing
 all_at P [] all place table there = absurd (none-some table there)
@@ -45,7 +45,7 @@ all_at P (Some first ∷ slots) all (suc place) table there = all_at P slots all
 pub drives_at : (slots : List (Option Table)) → all_different (outputs_of (standing slots)) ≡ true → (place : ℕ) (table : Table) → table_at slots place ≡ Some table → driver (standing slots) table.output ≡ Some table
 drives_at slots different = all_at (λ (table : Table). driver (standing slots) table.output ≡ Some table) slots (own_drivers (standing slots) different)
 
--- a table that stands has a place
+-- a table has an index
 pub has_place : (slots : List (Option Table)) (table : Table) → Has table (standing slots) → (place : ℕ) × (table_at slots place ≡ Some table)
 unfolding standing
 has_place [] table m = absurd m
@@ -69,7 +69,7 @@ place_within [] place table there = absurd (none-some table there)
 place_within (slot ∷ slots) zero table there = omega arith
 place_within (slot ∷ slots) (suc place) table there = let below : place < length slots = place_within slots place table there in omega (arith, below)
 
--- two places of tables in their order
+-- the indices of two tables in their order
 abbrev pub ArePlaces : List (Option Table) → Table → Table → Type 0
 ArePlaces slots first second = (one : ℕ) × (other : ℕ) × (one < other) × (table_at slots one ≡ Some first) × (table_at slots other ≡ Some second)
 
@@ -93,7 +93,7 @@ split_places (Some s ∷ slots) (t ∷ before) between after first second e =
 pub pair_places : (slots : List (Option Table)) (first second : Table) → ArePair (standing slots) first second → ArePlaces slots first second
 pair_places slots first second pair = split_places slots pair.before pair.between pair.after first second pair.among
 
--- a table that gives place to another one of its signal
+-- a table that is replaced by another one with its signal
 pub standing_set : (slots : List (Option Table)) (place : ℕ) (old new : Table) → all_different (outputs_of (standing slots)) ≡ true → table_at slots place ≡ Some old → new.output ≡ old.output
     → standing (set slots place (Some new)) ≡ replaced (standing slots) new
 unfolding standing replaced
@@ -107,7 +107,7 @@ standing_set (Some first ∷ slots) (suc place) old new different there same =
     ∙ sym (ap (λ (b : Bool). cond b (new ∷ standing slots) (first ∷ replaced (standing slots) new))
     (name_not new.output first.output (λ (e : new.output ≡ first.output). later_apart first slots place old different there (sym same ∙ e))))
 
--- the literals then
+-- the number of literals after that
 pub literals_set : (slots : List (Option Table)) (place : ℕ) (old new : Table) → table_at slots place ≡ Some old
     → sum_by literals_of_table (standing (set slots place (Some new))) + literals_of_table old ≡ sum_by literals_of_table (standing slots) + literals_of_table new
 unfolding standing
@@ -120,7 +120,7 @@ literals_set (Some first ∷ slots) zero old new there =
 literals_set (Some first ∷ slots) (suc place) old new there =
     omega (arith, literals_set slots place old new there, sum_by-cons literals_of_table first (standing (set slots place (Some new))), sum_by-cons literals_of_table first (standing slots))
 
--- what holds of all tables then
+-- what holds of all tables after that
 pub set_all : (P : Table → Type 0) (slots : List (Option Table)) (place : ℕ) (old new : Table) → table_at slots place ≡ Some old → P new → AllByRecursion P (standing slots)
     → AllByRecursion P (standing (set slots place (Some new))) × (length (standing (set slots place (Some new))) ≡ length (standing slots))
 unfolding standing

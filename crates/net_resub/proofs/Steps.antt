@@ -19,7 +19,7 @@ use Rattle.net_resub.proofs.Slots.{standing_set, set_all}
 use Rattle.net_resub.proofs.Saving.{saving_places, worth_some}
 use Rattle.net_resub.proofs.Worths.{best_is}
 
--- the circuit in which the table at a place has given place
+-- the circuit in which the table at an index was replaced
 pub resubbed_circuit : (placed next : Placed) (place : ℕ) (table by : Table) → all_different (outputs_of (standing placed.slots)) ≡ true → table_at placed.slots place ≡ Some table
     → next ≡ with_slot placed place (Some (resubbed by table)) → circuit_of next ≡ with_resubbed (circuit_of placed) by table
 unfolding with_replaced
@@ -43,7 +43,7 @@ step_is circuit new by table best made = record { by = by; table = table; best =
 pub step_fewer : (circuit new : Circuit) → IsStep circuit new → literals_of new < literals_of circuit
 step_fewer circuit new step = subst (λ (c : Circuit). literals_of c < literals_of circuit) (sym step.made) step.best.saves
 
--- what stands after the best division, where the table that is made has been set at its place
+-- the circuit after the best division, when the table that is made has been set at its index
 pub set_is : {R : Type 0} (placed next : Placed) (place by : ℕ) (made : CoverTable R) → ((old : Table) → table_at placed.slots place ≡ Some old → next ≡ with_slot placed place (Some (named old.output made)))
     → ((table other : Table) → table_at placed.slots place ≡ Some table → table_at placed.slots by ≡ Some other → named table.output made ≡ resubbed other table)
     → (table other : Table) → table_at placed.slots place ≡ Some table → table_at placed.slots by ≡ Some other → next ≡ with_slot placed place (Some (resubbed other table))

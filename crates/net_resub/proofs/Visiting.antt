@@ -1,4 +1,5 @@
--- Places that are visited: the divisors of a table, the tables that it may divide, and the pairs of them.
+-- Indices that are visited: those of the divisors of a table, of the tables that it may divide, and
+-- their pairs.
 use Rattle.std.proofs.Common.{◌≡◌, ℕ, ◌+◌, ◌<◌, ◌≤◌, ◌==◌, zero, suc, Bool, true, false, ◌||◌, ◌&&◌, Option, Some, None, List, [], ◌∷◌, ◌++◌, length, get_or, take, eqb, eqb-true, refl, sym, ap, ◌∙◌, subst, inl, inr, arith, take_all}
 use Rattle.std.specs.List.{Contains, dedup}
 use Rattle.std.specs.List.Sorted.{IsPermutation}
@@ -42,7 +43,7 @@ divisors_joined slots place table lists before places here are is joined by some
       | inr named ↦ (let (name, needed, under) = named in joined.listed by name (ap (λ (t : Table). has t.inputs name) (sym same) ∙ needed at.table.inputs over) under)
     ]
 
--- places that are sorted, each once
+-- indices that are sorted, each once
 listed : (places : List ℕ) (at : ℕ) → is_in places at ≡ true → Contains places at
 listed [] at h = absurd (false≢true h)
 listed (first ∷ places) at h = elim (or_cases (eqb first at) (is_in places at) h) as (λ _. Contains (first ∷ places) at) [
@@ -84,7 +85,7 @@ dividends_readers slots by divisor name places there needed told place some =
     ∙ (ap (λ (o : Option Table). has (inputs_in o) name) at.here
     ∙ needed at.table.inputs (subst (λ (d : Table). is_over at.table.inputs (row_cubes d) ≡ true) same over))
 
--- the first places
+-- the first indices
 pub below_none : (at : ℕ) → at < 0 → is_in [] at ≡ true
 below_none at lt = absurd (omega (arith, lt))
 
@@ -151,7 +152,7 @@ by_all slots by i places pairs long all are division some = are division ∙ cas
         nothing true = refl
         nothing false = refl
 
--- and those of that table by some
+-- the divisions of one table by some others
 abbrev pub ArePairsWith : List (Option Table) → ℕ → List ℕ → List Division → Type 0
 ArePairsWith slots place places pairs = AreJust (λ division. is_by place division || ((place == division.place) && is_in places division.by)) (saving_at slots) pairs
 

@@ -1,4 +1,4 @@
--- The best division of places is the best one of the circuit.
+-- The best division of indices is the best one of the circuit.
 use Rattle.std.proofs.Common.{◌≡◌, ℕ, ◌+◌, ◌<◌, ◌≤◌, true, Some, refl, ap, inl, inr, arith}
 use Rattle.circuit_model.specs.Counts.{literals_of}
 use Rattle.circuit_model.specs.Names.{all_different}

@@ -14,22 +14,22 @@ use Rattle.net_resub.specs.declared.divisions.Division.{Division}
 abbrev pub is_led : List (Option Table) → ℕ → ℕ → Bool
 is_led slots from to = leads (graph_of slots) (length (graph_of slots)) from to
 
--- a division that may be made is worth what it saves, any other one nothing
+-- the value of a division that may be made is what it saves, that of any other one is 0
 unfoldable pub worth_at : List (Option Table) → ℕ → ℕ → ℕ
 worth_at slots place by = if is_led slots by place then 0 else saving_at slots place by
 
--- places stand before those of a division
+-- a pair of indices comes before a division
 abbrev pub IsAhead : ℕ → ℕ → Division → Type 0
 IsAhead place by division = (place < division.place) ⊎ ((place ≡ division.place) × (by < division.by))
 
--- a division is worth something, none is worth more, and none that is worth as much stands before
--- it
+-- the value of a division is above 0, no value is greater, and no division of the same value comes
+-- before it
 pub record IsFirst (worths : Savings) (division : Division) : Type 0 where
   pub saves : 0 < saving_in worths division
   pub most : (place by : ℕ) → worths place by ≤ saving_in worths division
   pub first : (place by : ℕ) → worths place by ≡ saving_in worths division → IsAhead place by division → ⊥
 
--- the best division, where one is worth something
+-- the best division, if a value is above 0
 abbrev pub IsBest : Savings → Option Division → Type 0
 IsBest worths None = (place by : ℕ) → worths place by ≡ 0
 IsBest worths (Some division) = IsFirst worths division

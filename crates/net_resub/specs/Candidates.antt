@@ -8,15 +8,15 @@ use Rattle.net_readers.specs.Fanouts.{is_in}
 use Rattle.net_resub.specs.Pairs.{saving_at}
 use Rattle.net_resub.specs.declared.divisions.Division.{Division}
 
--- some indices have those of all tables by which division of the one at an index saves literals
+-- indices include those of all tables by which division of the table at an index saves literals
 abbrev pub AreDivisors : List (Option Table) → ℕ → List ℕ → Type 0
 AreDivisors slots place places = (by : ℕ) → 0 < saving_at slots place by → is_in places by ≡ true
 
--- some indices have those of all tables whose division by the one at an index saves literals
+-- indices include those of all tables whose division by the table at an index saves literals
 abbrev pub AreDividends : List (Option Table) → ℕ → List ℕ → Type 0
 AreDividends slots by places = (place : ℕ) → 0 < saving_at slots place by → is_in places place ≡ true
 
--- a division is one by the table at an index; it is one by that table or of it
+-- whether a division is by the table at an index; whether it is by that table or of it
 abbrev pub is_by : ℕ → Division → Bool
 is_by by division = by == division.by
 

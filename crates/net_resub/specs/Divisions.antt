@@ -1,4 +1,4 @@
--- Divisions in the order of what they save, and queues that have just some of them. No public
+-- Divisions in the order of what they save, and queues that have exactly some of them. No public
 -- clause needs these definitions. Source: Brayton, Rudell, Sangiovanni-Vincentelli and Wang, "MIS:
 -- A Multiple-Level Logic Optimization System" (1987). The order among divisions that save as much
 -- is the project's own.
@@ -13,11 +13,11 @@ use Rattle.net_queue.specs.Greatest.{reversed}
 use Rattle.net_queue.specs.Queue.{value_in}
 use Rattle.net_resub.specs.declared.divisions.Division.{Division}
 
--- the first place first, of one place the first table by which it is divided
+-- by the index of the dividend, and then by that of the divisor
 abbrev pub division_cmp : Division → Division → Ordering
 division_cmp one other = ordering_then (nat_cmp one.place other.place) (nat_cmp one.by other.by)
 
--- divisions that compare alike are one
+-- divisions that compare equal are the same
 pub divisions_exact : CmpEqualImpliesEq division_cmp
 divisions_exact one other h =
     ap (λ (places : ℕ × ℕ). let division : Division = record { place = places.0; by = places.1 } in division)
@@ -27,14 +27,14 @@ divisions_exact one other h =
 abbrev pub rank_of : Division → ℕ → Option (Reverse ℕ)
 rank_of division saving = Some (reversed saving)
 
--- the division is another one, or one of some
+-- whether two divisions are the same, and whether one is among some
 abbrev pub is_of : Division → Division → Bool
 is_of one other = (one.place == other.place) && (one.by == other.by)
 
 abbrev pub is_among : List Division → Division → Bool
 is_among divisions division = list_any (λ one. is_of one division) divisions
 
--- what the division of one place's table by another one's saves
+-- what the division of the table at an index by that at another one saves
 abbrev pub Savings : Type 0
 Savings = ℕ → ℕ → ℕ
 
@@ -45,10 +45,10 @@ saving_in savings division = savings division.place division.by
 abbrev pub saved : ℕ → Option ℕ
 saved saving = if ltb 0 saving then Some saving else None
 
--- a queue has just those divisions that save and of which a test is true, with what they save
+-- a queue has exactly those divisions that save and pass a test, with what they save
 abbrev pub HasJust : (Division → Bool) → Savings → List (Division × ℕ) → Type 0
 HasJust test savings entries = (division : Division) → value_in is_of entries division ≡ (if test division then saved (saving_in savings division) else None)
 
--- of the divisions that save some are just those of which a test is true
+-- of the divisions that save, a list has exactly those that pass a test
 abbrev pub AreJust : (Division → Bool) → Savings → List Division → Type 0
 AreJust test savings divisions = (division : Division) → 0 < saving_in savings division → is_among divisions division ≡ test division

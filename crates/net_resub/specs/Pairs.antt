@@ -13,8 +13,8 @@ use Rattle.net_work.specs.Placed.{table_at}
 use Rattle.net_resub.specs.Resubbed.{resubbed}
 use Rattle.sis_base.specs.declared.limits.TheConstants.{MAX_INPUTS}
 
--- how many literals are saved if a table is divided by another one; 0 if it reads that one's signal
--- already, or becomes too wide
+-- how many literals are saved if a table is divided by another one; 0 if it already reads that
+-- one's signal, or becomes too wide
 unfoldable pub saving_of : Table → Table → ℕ
 saving_of by table =
     if has table.inputs by.output || ltb MAX_INPUTS (length (resubbed by table).inputs) then 0 else literals_of_table table - literals_of_table (resubbed by table)

@@ -1,8 +1,8 @@
--- Resubstitution: a table is divided by the rows of another one that stands already, whose signal
--- then takes their place; step by step, until no such division saves a literal. Source: Brayton,
--- Rudell, Sangiovanni-Vincentelli and Wang, "MIS: A Multiple-Level Logic Optimization System"
--- (1987); the SIS report (UCB/ERL M92/41), `resub`. The order among pairs that save as much, and
--- the limit of `MAX_INPUTS` inputs, are the project's own.
+-- Resubstitution: a table is divided by the rows of another table of the network, whose signal then
+-- replaces them; step by step, until no such division saves a literal. Source: Brayton, Rudell,
+-- Sangiovanni-Vincentelli and Wang, "MIS: A Multiple-Level Logic Optimization System" (1987); the
+-- SIS report (UCB/ERL M92/41), `resub`. The order among pairs that save as much, and the limit of
+-- `MAX_INPUTS` inputs, are the project's own.
 use Rattle.std.specs.Prelude.{◌≡◌, ◌≢◌, ◌⊎◌, ℕ, ◌≤◌, false, map, length}
 use Rattle.circuit_model.specs.Names.{has}
 use Rattle.circuit_model.specs.Counts.{literals_of}
@@ -28,10 +28,10 @@ row_cubes table = map (λ row. cube_over table.inputs (places_of row)) table.row
 abbrev pub resubbed : Table → Table → Table
 resubbed by table = divided by.output by.phase (row_cubes by) table
 
--- a table of a circuit may be divided by another one: it does not have that one's signal as an
--- input; that one does not depend on it through any tables (nor in no step, so the two differ); the
--- quotient has a cube, so that it becomes another table; and that table, tidy, has at most
--- `MAX_INPUTS` inputs
+-- a table of a circuit may be divided by another one: it does not have the divisor's signal as an
+-- input; the divisor does not depend on it in any number of steps, not even in 0 (so the two
+-- differ); the quotient has a cube, so that it becomes another table; and that table, in normal
+-- form, has at most `MAX_INPUTS` inputs
 pub record IsCandidate (circuit : Circuit) (by table : Table) : Type 0 where
   pub by_stands : Has by circuit.tables
   pub stands : Has table circuit.tables
@@ -48,7 +48,7 @@ with_resubbed circuit by table = with_replaced circuit (resubbed by table)
 abbrev pub literals_after : Circuit → Table → Table → ℕ
 literals_after circuit by table = literals_of (with_resubbed circuit by table)
 
--- a table to divide by, and one that is divided
+-- a divisor and a dividend
 abbrev pub Choice : Type 0
 Choice = Table × Table
 
@@ -57,8 +57,7 @@ abbrev pub IsEarlier : Circuit → Choice → Choice → Type 0
 IsEarlier circuit (by, table) (other_by, other) =
     ArePair circuit.tables table other ⊎ ((table ≡ other) × ArePair circuit.tables by other_by)
 
--- the division that leaves fewest literals, and fewer than there are; of those that leave as many
--- the first
+-- the division that leaves fewest literals, and fewer than before; the first of several
 abbrev pub IsBest : Circuit → Table → Table → Type 0
 IsBest circuit by table =
     IsBestChoice {C = Choice} (λ one. IsCandidate circuit one.0 one.1) (IsEarlier circuit) (λ one. literals_after circuit one.0 one.1) (literals_of circuit) (by, table)

@@ -1,4 +1,4 @@
-//! The best division that may be made: the first in their order that makes no cycle.
+//! The best division that may be made: the first of the queue that makes no cycle.
 
 ghost use Rattle.std.specs.Prelude.{◌≡◌, true, IfOk};
 ghost use Rattle.circuit_model.specs.Soundness.{IsSound};

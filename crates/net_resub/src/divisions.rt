@@ -1,4 +1,4 @@
-//! Divisions in the order in which they are made, and queues of them.
+//! Divisions in the order in which they are made, and priority queues of them.
 
 ghost use Rattle.std.specs.Prelude.{◌≡◌, if◌then◌else◌, None, OnOk};
 ghost use Rattle.net_queue.specs.Queue.{value_in};
@@ -9,15 +9,15 @@ use net_queue::{Queue, Ranking};
 use std::alloc::{AllocError, Global};
 use std::cmp::Reverse;
 
-/// The place of a table, and that of a table by which it may be divided.
+/// The index of a table, and that of a table by which it may be divided.
 #[derive(Clone, Copy, PartialEq, Eq, PartialOrd, Ord, Hash, Drop)]
 pub(crate) struct Division {
     pub(crate) place: usize,
     pub(crate) by: usize,
 }
 
-/// The division that saves most first; of several that save as much that of the first place, and of
-/// those the one by the first table.
+/// The division that saves most first; of several the one of the first table, and for that table
+/// the one by the first divisor.
 pub(crate) struct MostFirst;
 
 impl Ranking<Division, u128, Reverse<u128>> for MostFirst {
@@ -39,10 +39,10 @@ impl Ranking<Division, u128, Reverse<u128>> for MostFirst {
     }
 }
 
-/// What divisions save, those that save literals.
+/// The priority queue of the divisions that save literals, with what they save.
 pub(crate) type Divisions = Queue<Division, u128, Reverse<u128>, MostFirst>;
 
-/// A division comes that saves so much; one that saves nothing is not kept.
+/// Sets what a division saves; one that saves nothing is not kept.
 pub(crate) fn put(
     alloc: Global,
     divisions: &mut Divisions,
@@ -60,7 +60,7 @@ pub(crate) fn put(
     Ok(())
 }
 
-/// A division goes, if it is there.
+/// Removes a division, if it is there.
 pub(crate) fn take(divisions: &mut Divisions, division: Division)
     ensures { (other : Division) → value_in is_of divisions.new other
         ≡ (if is_of division other then None else value_in is_of divisions.old other) }

@@ -1,5 +1,10 @@
-//! The divisions that save literals, kept while tables change one after the other: those with a
-//! table leave before it changes, and come anew behind the change.
+//! The divisions that save literals, kept while tables change one after the other.
+//!
+//! Source: Brayton, Rudell, Sangiovanni-Vincentelli and Wang, "MIS: A Multiple-Level Logic
+//! Optimization System" (1987). Before a table changes the divisions of it and by it are removed
+//! (`leave`), and after the change they are computed and added (`come`). Callers rely on `IsKept`:
+//! the queue has exactly the divisions that save a literal, and all tables are listed; between the
+//! two calls that holds of all tables but one (`IsKeptBeside`).
 
 ghost use Rattle.std.specs.Prelude.{◌≡◌, ◌&&◌, ◌||◌, not, Bool, true, IfOk, OnOk};
 ghost use Rattle.net_resub.specs.Divisions.{is_of, is_among, Savings, HasJust};
@@ -15,15 +20,15 @@ use cube_cover::Row;
 use net_work::WorkingNetwork;
 use std::alloc::{AllocError, Global};
 
-/// The divisions of a network that save literals, in their order, and its tables as they are listed
-/// to be found as divisors.
+/// The divisions of a network that save literals, in their order, and the lists in which its tables
+/// are found as divisors.
 #[derive(Drop)]
 pub(crate) struct Kept {
     pub(crate) divisions: Divisions,
     pub(crate) lists: DivisorLists,
 }
 
-// Puts a division into a queue, if it saves literals.
+// Adds a division to a queue, if it saves literals.
 fn put_one<R: Row>(
     alloc: Global,
     work: &WorkingNetwork<R>,
@@ -38,7 +43,7 @@ fn put_one<R: Row>(
     put(alloc, divisions, division, saving)
 }
 
-// Puts divisions into a queue, those that save literals.
+// Adds those of some divisions that save literals to a queue.
 fn put_all<R: Row>(
     alloc: Global,
     work: &WorkingNetwork<R>,
@@ -55,7 +60,7 @@ fn put_all<R: Row>(
     Ok(())
 }
 
-// Takes divisions out of a queue.
+// Removes divisions from a queue.
 fn take_all(gone: &[Division], divisions: &mut Divisions)
     ensures { (test : Division → Bool) (savings : Savings) → HasJust test savings divisions.old
         → HasJust (λ division. test division && not (is_among gone.now division)) savings divisions.new }
@@ -78,7 +83,7 @@ fn all_divisions<R: Row>(alloc: Global, work: &WorkingNetwork<R>) -> Result<Divi
 }
 
 impl Kept {
-    /// What is kept of a network.
+    /// The queue and the lists of a network.
     pub(crate) fn of<R: Row>(alloc: Global, work: &WorkingNetwork<R>) -> Result<Kept, AllocError>
         ensures { IfOk result (IsKept work.now.slots) }
     {
@@ -87,8 +92,8 @@ impl Kept {
         Ok(Kept { divisions, lists })
     }
 
-    /// The divisions with the table at a place leave, which is about to change; an error only for
-    /// want of memory, and then anything may be kept.
+    /// Removes the divisions with the table at an index, which is about to change. After an error
+    /// anything may be kept.
     pub(crate) fn leave<R: Row>(
         &mut self,
         alloc: Global,
@@ -103,8 +108,8 @@ impl Kept {
         Ok(())
     }
 
-    /// The divisions with the table at a place come, which has changed; an error only for want of
-    /// memory, and then anything may be kept.
+    /// Adds the divisions with the table at an index, which has changed. After an error anything
+    /// may be kept.
     pub(crate) fn come<R: Row>(
         &mut self,
         alloc: Global,

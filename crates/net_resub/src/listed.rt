@@ -1,12 +1,13 @@
-//! Tables listed by name, to be found as divisors: each under the name of its literals that fewest
-//! tables read. Only a table that reads this name may be divided by it, so the divisors of a table
-//! are in the lists under its inputs.
+//! Lists of tables by name, in which they are found as divisors: each under the name of its
+//! literals that fewest tables read. Only a table that reads this name may be divided by it, so the
+//! divisors of a table are in the lists under its inputs, or among those without a name.
 //!
 //! Source: Brayton, Rudell, Sangiovanni-Vincentelli and Wang, "MIS: A Multiple-Level Logic
 //! Optimization System" (1987): a divisor's literals are among those of the table that it divides.
-//! Promised: the index of each table is in the list under such a name or, if no row has a literal,
-//! among those without a name; other indices may be there too (`specs/Listed.antt`, `AreListed`). A
-//! table that changes is listed again, and nothing leaves a list; no clause says how much work the
+//! Promised: the index of each table is in the list under a name of its literals or, if no row has
+//! a literal, among those without a name; other indices may be there too (`specs/Listed.antt`,
+//! `AreListed`). That the name is the one that fewest tables read no clause says. A table that
+//! changes is listed again, and nothing is removed from a list; no clause says how much work the
 //! lists save.
 
 ghost use Rattle.std.specs.Prelude.{◌≡◌, ◌==◌, ◌||◌, ◌↔◌, ℕ, Bool, true, Some, None, List, [], bytes_eq, is_some, slice_index_or, if◌then◌else◌, IfOk, IfSome, OnOk, IsTrue};
@@ -59,7 +60,7 @@ fn is_rarer<R: Row>(work: &WorkingNetwork<R>, name: &Name, other: Option<&Name>)
 }
 
 /// The input that fewest tables read, among those of which a row has a literal; none if no row has
-/// a literal.
+/// a literal. That it is the one that fewest tables read no clause says.
 pub(crate) fn rarest_name<'a, R: Row>(
     work: &WorkingNetwork<R>,
     entry: &'a Entry<R>,

@@ -4,8 +4,8 @@
 //! Source: Brayton, Rudell, Sangiovanni-Vincentelli and Wang, "MIS: A Multiple-Level Logic
 //! Optimization System" (1987); the SIS report (UCB/ERL M92/41), `resub`. A division that would
 //! need a name that the dividend does not read is not tried, as it saves nothing. Callers rely on
-//! `saving_at` exactly: 0 for a division of a table by itself, by a signal that it reads already, or
-//! with a result of more than `MAX_INPUTS` inputs.
+//! `saving_at` exactly: 0 for a division of a table by itself, by a signal that it reads already,
+//! or with a result of more than `MAX_INPUTS` inputs.
 
 ghost use Rattle.std.specs.Prelude.{◌≡◌, ℕ, ◌-◌, ◌<◌, ltb, true, not, ◌||◌, Some, None, List, length, is_some, slice_index_or, if◌then◌else◌, IfOk, IfSome};
 ghost use Rattle.circuit_model.specs.Names.{has, all_different};
@@ -72,7 +72,7 @@ fn is_row_over<R: Row>(names: &[Name], inputs: &[Name], row: &R) -> bool
     true
 }
 
-// Whether all literals of a table's rows have one of some names: only then can a table with these
+// Whether all literals of a table's rows have one of some names: only then may a table with these
 // inputs be divided by it.
 fn is_table_over<R: Row>(names: &[Name], by: &Entry<R>) -> bool
     ensures { result ≡ is_over names.now (row_cubes (written_of by.now)) }
@@ -87,7 +87,7 @@ fn is_table_over<R: Row>(names: &[Name], by: &Entry<R>) -> bool
     true
 }
 
-// What a table becomes if it is divided by another one; none if it stays.
+// What a table becomes if it is divided by another one; none if it does not change.
 fn resubbed_table<R: Row>(
     alloc: Global,
     entry: &Entry<R>,
@@ -163,7 +163,7 @@ pub(crate) fn saving_at<R: Row>(
     }
 }
 
-// What a table becomes where it is divided by another one, which saves literals.
+// What a table becomes if it is divided by another one, which saves literals.
 fn divided_by<R: Row>(
     alloc: Global,
     entry: &Entry<R>,

@@ -61,7 +61,7 @@ fn reads_at<R: Row>(
     }
 }
 
-// The marks of all places to which a signal leads.
+// For each index, whether the table at a given index depends on the one there.
 fn reached<R: Row>(
     alloc: Global,
     work: &WorkingNetwork<R>,

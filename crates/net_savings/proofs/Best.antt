@@ -1,4 +1,4 @@
--- Which cover is the best of those that pass, by its rank.
+-- Which cover is the best of those that pass a test, by its rank.
 use Rattle.std.proofs.Common.{◌≡◌, zero, suc, Bool, cond, ◌<◌, ◌≤◌, ℕ, Option, Some, None, Ordering, Less, Equal, Greater, nat_cmp, refl, sym, ap, ◌∙◌, arith}
 use Rattle.std.specs.Cmp.{IsTotalOrder, on_total, back_total}
 use Rattle.std.specs.Option.{option_map_or}
@@ -11,7 +11,8 @@ use Rattle.cover_names.specs.Literals.{NamedCover, cover_cmp}
 use Rattle.net_queue.specs.Queue.{IsBest}
 use Rattle.net_savings.specs.Ranking.{KnownCovers, saving_in, saved_by, rank_of, rank_in, greatest_first}
 
--- of the covers that pass none is better: none saves more, and none that saves as much is before it in the order of covers
+-- no cover that passes is better: none saves more, and none that saves as much comes before it in
+-- the order of covers
 pub record IsBestOf (known : KnownCovers) (Passes : NamedCover → Type 0) (best : NamedCover) : Type 0 where
   pub saves : 1 ≤ saved_by known best
   pub most : (other : NamedCover) → Passes other → saved_by known other ≤ saved_by known best
@@ -32,7 +33,7 @@ not_less x y not = cases (nat_cmp x y) refl
 rank_some : (cover : NamedCover) (saving : ℕ) → 1 ≤ saving → rank_of cover saving ≡ Some (record { 0 = saving })
 rank_some cover saving some = ap (λ (b : Bool). cond b None (Some (record { 0 = saving }))) (ne_eqb saving 0 (λ none. absurd (omega (arith, some, none))))
 
--- the rank of a saving that is known, and the saving of a rank
+-- the rank of a known saving, and the saving of a rank
 rank_here : (cover : NamedCover) (known : Option ℕ) → 1 ≤ unwrap_or known 0 → option_map_or (rank_of cover) known None ≡ Some (record { 0 = unwrap_or known 0 })
 rank_here cover None some = absurd (omega (arith, some))
 rank_here cover (Some saving) some = rank_some cover saving some

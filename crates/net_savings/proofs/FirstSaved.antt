@@ -1,4 +1,5 @@
--- Where all that is noted of candidates is exact, the first of the ranking that is one is next.
+-- If the savings of all candidates are exact, the first cover of the ranking that is a candidate is
+-- next.
 use Rattle.std.proofs.Common.{◌≡◌, ◌↔◌, ℕ, ◌+◌, ◌<◌, ◌≤◌, ◌==◌, zero, suc, true, false, Option, Some, None, List, [], ◌∷◌, length, take, get_or, slice_get, refl, sym, ap, ◌∙◌, subst, inl, inr, arith}
 use Rattle.std.specs.Prelude.{unwrap_or}
 use Rattle.std.specs.Global.{Vec}
@@ -60,9 +61,9 @@ held_in own place cover h = cases (slice_get own place) refl h
 pub in_held : (own : List (Option (Vec NamedCover))) (place : ℕ) (cover : NamedCover) → held_at (slice_get own place) cover ≡ false → IsIn own place cover → ⊥
 in_held own place cover h (covers, e, m) = false≢true (sym h ∙ (ap (λ (o : Option (Option (Vec NamedCover))). held_at o cover) e ∙ cover_any cover covers.items m))
 
--- ---- candidates are what is listed
+-- ---- candidates are exactly the covers in the lists
 
--- where a table stands
+-- the index of a table
 place_of : (slots : List (Option Table)) (table : Table) → Has table (standing slots) → (at : ℕ) × (table_at slots at ≡ Some table)
 unfolding standing
 place_of [] table m = absurd m
@@ -73,7 +74,7 @@ place_of (Some first ∷ slots) table m = elim m as (λ _. (at : ℕ) × (table_
 ]
 
 module _ (rule : Rule) (now : Placed) (sound : IsSound (circuit_of now)) (own : List (Option (Vec NamedCover))) (lists : AreKept rule now.slots own) where
-  -- what stands in a list is a candidate
+  -- a cover in a list is a candidate
   pub in_candidate : (place : ℕ) (cover : NamedCover) → IsIn own place cover → IsCandidate rule (standing now.slots) cover
   in_candidate place cover (covers, there, m) = cases (table_at now.slots place) refl (lists.each place covers there)
     where
@@ -82,7 +83,7 @@ module _ (rule : Rule) (now : Placed) (sound : IsSound (circuit_of now)) (own : 
       cases (Some table) e h = own_candidate rule (standing now.slots) table cover (stands now.slots place table e) ((h.1 cover).0 m)
 
   module _ (listed : (place : ℕ) (table : Table) → table_at now.slots place ≡ Some table → IsListed own place) where
-    -- what a table gives by itself stands in its list, and it reads all names of that
+    -- what a table gives by itself is in its list, and the table reads all names of it
     pub own_in : (table : Table) (cover : NamedCover) → Has table (standing now.slots) → IsOwn rule table cover
         → (place : ℕ) × ((at_place : table_at now.slots place ≡ Some table) × (is_over table.inputs cover ≡ true)) × IsIn own place cover
     own_in table cover among is =
@@ -98,7 +99,8 @@ module _ (rule : Rule) (now : Placed) (sound : IsSound (circuit_of now)) (own : 
         let own_is : AreOwn rule (Some table) covers.items = subst (λ (o : Option Table). AreOwn rule o covers.items) there (lists.each place covers e) in
         own_is.0)
 
-    -- candidates that rows do not share are those that stand in a list at places among which are those of all tables that read all their names
+    -- candidates that rows do not share are the covers in a list at one of some indices, which
+    -- include those of all tables that read all their names
     pub held_candidate : (cover : NamedCover) (places : List ℕ) → (rule ≡ Gcx → ⊥) → ((at : ℕ) (table : Table) → table_at now.slots at ≡ Some table → is_over table.inputs cover ≡ true → is_in places at ≡ true)
         → ((place : ℕ) × (is_in places place ≡ true) × IsIn own place cover) ↔ IsCandidate rule (standing now.slots) cover
     held_candidate cover places away all = (
@@ -119,13 +121,13 @@ module _ (rule : Rule) (now : Placed) (sound : IsSound (circuit_of now)) (own : 
       ],
     )
 
--- a place at an index is among the places
+-- an item of the indices
 pub place_among : (places : List ℕ) (i : ℕ) → i < length places → is_in places (get_or places i 0) ≡ true
 place_among [] i below = absurd (omega (arith, below))
 place_among (first ∷ places) zero below = or_left (first == first) (is_in places first) (eq-eqb first first refl)
 place_among (first ∷ places) (suc i) below = or_right (first == get_or places i 0) (is_in places (get_or places i 0)) (place_among places i (omega (arith, below)))
 
--- one place more
+-- one more index
 pub not_in_next : (own : List (Option (Vec NamedCover))) (cover : NamedCover) (places : List ℕ) (i place d : ℕ) → i < length places → place ≡ get_or places i d
     → ((at : ℕ) → is_in (take i places) at ≡ true → IsIn own at cover → ⊥) → (IsIn own place cover → ⊥) → (at : ℕ) → is_in (take (i + 1) places) at ≡ true → IsIn own at cover → ⊥
 not_in_next own cover places i place d below is before here at h =
@@ -155,7 +157,7 @@ module _ (rule : Rule) (now : Placed) (name : List ℕ) (sound : IsSound (circui
             notes.shared one other cover (all_listed one table first) (all_listed other another second) (subst (λ (r : Rule). IsSharedBy r now.slots one other cover) (sym same) by))
       ]
 
-  -- what is noted of a candidate is what it saves
+  -- the saving set for a candidate is what it saves
   saves_noted : (cover : NamedCover) (number : ℕ) → Passes cover → IsSaving (standing now.slots) name cover number → number ≡ saved_by known cover
   saves_noted cover number is saving =
       let (count, e) = noted cover is in

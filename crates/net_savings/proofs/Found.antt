@@ -1,4 +1,4 @@
--- The best of all candidates is next, and where none saves a literal the circuit is done.
+-- The best of all candidates is next, and if none saves a literal the circuit is done.
 use Rattle.std.proofs.Common.{◌≡◌, ℕ, ◌+◌, ◌-◌, ◌<◌, ◌≤◌, List, Less, sym, ap, ◌∙◌, inl, inr, arith}
 use Rattle.std.specs.List.{AllByRecursion}
 use Rattle.std.proofs.lemmas.Bool.{cases_lt}
@@ -25,7 +25,8 @@ module _ (rule : Rule) (circuit : Circuit) (name : List ℕ) (sound : IsSound ci
   own_literals : (cover : NamedCover) → IsCandidate rule circuit.tables cover → literals_of_table (cover_table name cover) ≡ literals_in cover
   own_literals cover is = cover_table_literals name cover (candidate_usable rule (given circuit) circuit.tables cover (tables_read circuit sound) is).apart
 
-  -- an open candidate that loses more than it has saves the rest
+  -- a candidate that may be extracted, and for which the tables lose more literals than it has,
+  -- saves the difference
   pub open_saves : (cover : NamedCover) → IsOpen rule circuit name cover → literals_in cover < lost name cover circuit.tables
       → IsSaving circuit.tables name cover (lost name cover circuit.tables - literals_in cover)
   open_saves cover may more = record {

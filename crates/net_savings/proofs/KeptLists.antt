@@ -1,4 +1,4 @@
--- What tables give by themselves, kept while tables come and change.
+-- What tables give by themselves, kept while tables are added and change.
 use Rattle.std.proofs.Common.{◌≡◌, ℕ, ◌<◌, zero, suc, Option, Some, None, List, [], ◌∷◌, ◌++◌, length, set, slice_get, refl, sym, ap, subst, arith}
 use Rattle.std.specs.Global.{Vec}
 use Rattle.std.proofs.lemmas.List.{length-set, length-append}
@@ -10,7 +10,7 @@ use Rattle.net_core.proofs.Lookups.{get_set_other}
 use Rattle.net_work.specs.Placed.{joined, table_at}
 use Rattle.net_savings.specs.Listing.{AreKept, AreOwn}
 
--- what is left once a place is cleared
+-- what is left after an index is cleared
 pub cleared : (lists : List (Option (Vec NamedCover))) (place at : ℕ) (covers : Vec NamedCover) → slice_get (set lists place None) at ≡ Some (Some covers)
     → (slice_get lists at ≡ Some (Some covers)) × (at ≡ place → ⊥)
 cleared [] place at covers e = absurd (none-some (Some covers) e)

@@ -1,4 +1,4 @@
--- What tables lose where they are divided.
+-- What tables lose if they are divided.
 use Rattle.std.proofs.Common.{◌≡◌, ℕ, MatchOption, ◌+◌, ◌≤◌, ◌<◌, ltb, ◌&&◌, Bool, true, false, Option, Some, None, List, [], ◌∷◌, ◌++◌, length, take, get_or, refl, sym, ap, ◌∙◌, subst, inl, inr, arith}
 use Rattle.std.specs.List.{sum_by, AllByRecursion}
 use Rattle.std.proofs.lemmas.Bool.{false≢true, and_parts, ltb-true, lt-ltb, cases_lt}
@@ -57,13 +57,13 @@ module _ (name : List ℕ) (cover : NamedCover) (table : Table) where
             | inr less ↦ omega (arith, same, less)
           ]
 
--- what tables lose at places, each once, outside of which none reads all that the cover reads
+-- indices, each once, that include those of all tables that read all that the cover reads
 pub record AreAll (cover : NamedCover) (slots : List (Option Table)) (places : List ℕ) : Type 0 where
   pub once : AreOnce places
   pub all : (at : ℕ) (table : Table) → table_at slots at ≡ Some table → is_over table.inputs cover ≡ true → is_in places at ≡ true
 
 module _ (name : List ℕ) (cover : NamedCover) (slots : List (Option Table)) where
-  -- a table at another place stays as it is
+  -- a table at another index stays as it is
   pub stays : (places : List ℕ) → AreAll cover slots places → (at : ℕ) → (Has at places → ⊥) → (table : Table) → table_at slots at ≡ Some table → divided name true cover table ≡ table
   stays places are at away table there = cases (is_over table.inputs cover) refl
     where
@@ -121,7 +121,7 @@ module _ (name : List ℕ) (cover : NamedCover) (slots : List (Option Table)) wh
   pub saved_wide : MAX_INPUTS < length (cover_table name cover).inputs → IsSaved (standing slots) name cover None
   saved_wide many = λ number saving. absurd (omega (arith, many, saving.narrow.added))
 
--- one place more
+-- one more index
 pub losses_next : (name : List ℕ) (cover : NamedCover) (slots : List (Option Table)) (places : List ℕ) (i place d total lost sum : ℕ) → i < length places → place ≡ get_or places i d
     → total ≡ lost_at name cover slots (take i places) → lost ≡ lost_of name cover (table_at slots place) → sum ≡ total + lost → sum ≡ lost_at name cover slots (take (i + 1) places)
 losses_next name cover slots places i place d total lost sum below is before here made =

@@ -1,4 +1,5 @@
--- What a cover saves does not rest on the name that stands for it, as long as no table reads that name.
+-- What a cover saves does not depend on the name of its signal, as long as no table reads that
+-- name.
 use Rattle.std.proofs.Common.{◌≡◌, ℕ, ◌+◌, ◌-◌, ◌≤◌, Bool, true, false, List, [], ◌∷◌, ◌++◌, map, length, refl, sym, ap, ◌∙◌, subst, inl, inr, arith}
 use Rattle.std.specs.List.{sum_by, list_any, AllByRecursion}
 use Rattle.std.proofs.lemmas.Bool.{false≢true}

@@ -1,4 +1,5 @@
--- The tables that read all that a cover reads read the name of its first literal; places in order, each once.
+-- The tables that read all that a cover reads are fanouts of the name of its first literal; indices
+-- in order, each once.
 use Rattle.std.proofs.Common.{◌≡◌, ℕ, ◌<◌, ◌==◌, zero, suc, eqb, cond, Bool, true, false, Option, Some, List, [], ◌∷◌, length, slice_get, refl, sym, ap, ◌∙◌, subst, inl, inr, arith}
 use Rattle.std.specs.List.{dedup, dedup_from}
 use Rattle.std.proofs.lemmas.Bool.{false≢true, eqb-true, or_left, or_right, or_cases}
@@ -35,14 +36,14 @@ pub first_has : (cube : Cube) (literal : Literal) → Some literal ≡ slice_get
 first_has [] literal h = absurd (none-some literal (sym h))
 first_has (first ∷ cube) literal h = inl (same_Some literal first h)
 
--- the readers of a name of the cover
+-- the fanouts of a name of the cover
 pub readers_all : (slots : List (Option Table)) (cover : NamedCover) (name : List ℕ) (readers places : List ℕ) → has (names_in cover) name ≡ true
     → ((at : ℕ) → is_in readers at ≡ has (inputs_at slots at) name) → ((at : ℕ) → is_in readers at ≡ true → is_in places at ≡ true)
     → (at : ℕ) (table : Table) → table_at slots at ≡ Some table → is_over table.inputs cover ≡ true → is_in places at ≡ true
 readers_all slots cover name readers places named exact kept at table there over =
     kept at (exact at ∙ (ap (λ (o : Option Table). has (inputs_in o) name) there ∙ over_names table.inputs cover name over named))
 
--- what a list keeps where repeated neighbours go
+-- what a list keeps if repeated neighbours are removed
 from_kept : (first : ℕ) (places : List ℕ) (at : ℕ) → is_in (first ∷ places) at ≡ true → is_in (dedup_from eqb first places) at ≡ true
 from_kept first [] at h = h
 from_kept first (next ∷ places) at h = cases (eqb next first) refl (from_kept first places at) (from_kept next places at)
@@ -83,7 +84,7 @@ pub of_dedup : (places : List ℕ) (at : ℕ) → is_in (dedup eqb places) at �
 of_dedup [] at h = h
 of_dedup (first ∷ places) at h = of_kept first places at h
 
--- a place whose table reads a name is one of the places
+-- the index of a table that reads a name is within the network
 pub reads_within : (slots : List (Option Table)) (name : List ℕ) (at : ℕ) → has (inputs_at slots at) name ≡ true → at < length slots
 reads_within [] name at h = absurd (false≢true h)
 reads_within (slot ∷ slots) name zero h = omega arith

@@ -1,4 +1,4 @@
--- Tables that stay or become narrow where they are divided by a cover.
+-- Tables that stay or become narrow if they are divided by a cover.
 use Rattle.std.proofs.Common.{◌≡◌, ◌↔◌, ℕ, ◌+◌, ◌<◌, ◌≤◌, Bool, true, false, IsTrue, Option, Some, None, is_some, List, [], ◌∷◌, length, sym, ◌∙◌, subst, inl, inr, arith}
 use Rattle.std.specs.List.{AllByRecursion}
 use Rattle.std.proofs.lemmas.Bool.{false≢true}
@@ -23,7 +23,7 @@ use Rattle.net_savings.proofs.Tabled.{name_unread}
 use Rattle.sis_base.specs.declared.limits.TheConstants.{MAX_INPUTS}
 
 module _ (name : List ℕ) (cover : NamedCover) where
-  -- a table that has fewer inputs than may be
+  -- a table that has fewer inputs than the limit
   few_narrow : (table : Table) → all_different table.inputs ≡ true → has table.inputs name ≡ false → length table.inputs < MAX_INPUTS → IsNarrow name cover table
   few_narrow table once free few =
       elim (divided_or_not name true cover table) as (λ _. IsNarrow name cover table) [
@@ -37,13 +37,13 @@ module _ (name : List ℕ) (cover : NamedCover) where
   entry_narrow now entry place sound new there once few =
       subst (IsNarrowIn name cover) there (few_narrow (written_of entry) once (name_unread now name entry place sound new there) few)
 
-  -- a loss tells whether a table is narrow
+  -- a loss says whether a table is narrow
   pub loss_tells : (table : Option Table) (loss : Option ℕ) (some : Bool) → some ≡ is_some loss → IsLoss name cover table loss → IsTrue some ↔ IsNarrowIn name cover table
   loss_tells table None some is told = (λ yes. absurd (false≢true (sym is ∙ yes)), λ narrow. absurd (told narrow))
   loss_tells table (Some lost) some is told = (λ yes. told.1, λ narrow. is)
 
   module _ (slots : List (Option Table)) (places : List ℕ) where
-    -- one place is not narrow
+    -- the table at one index is not narrow
     pub wide_among : (place : ℕ) (narrow : Bool) → Has place places → (IsTrue narrow ↔ IsNarrowIn name cover (table_at slots place)) → narrow ≡ false
         → IsTrue false ↔ AllByRecursion (λ at. IsNarrowIn name cover (table_at slots at)) places
     wide_among place narrow among told wide = (
@@ -56,7 +56,7 @@ module _ (name : List ℕ) (cover : NamedCover) where
     each_narrow [] all = tt
     each_narrow (place ∷ places) all = (narrow_there name cover slots all place, each_narrow places all)
 
-    -- the places of all tables that the cover may divide tell of all tables
+    -- what holds at the indices of all tables that the cover may divide holds of all tables
     pub leaves_told : (places : List ℕ) → AreAll cover slots places → length (cover_table name cover).inputs ≤ MAX_INPUTS → (narrow : Bool)
         → IsTrue narrow ↔ AllByRecursion (λ at. IsNarrowIn name cover (table_at slots at)) places → IsTrue narrow ↔ LeavesNarrow (standing slots) name cover
     leaves_told places are few narrow told = (

@@ -1,4 +1,5 @@
--- What is noted of candidates: it is exact, it grows, and it stays while tables that do not concern it change.
+-- The savings of candidates: they are exact, more are set, and they stay while tables that do not
+-- concern them change.
 use Rattle.std.proofs.Common.{◌≡◌, ◌⊎◌, ℕ, Bool, true, false, ◌&&◌, if◌then◌else◌, Option, Some, None, is_none, List, [], ◌∷◌, ◌++◌, bytes_eq, refl, sym, ap, ◌∙◌, subst, inl, inr, arith}
 use Rattle.std.specs.Prelude.{unwrap_or}
 use Rattle.std.specs.List.{AllByRecursion}
@@ -57,7 +58,7 @@ module _ (now : Placed) (name : List ℕ) (sound : IsSound (circuit_of now)) (un
       saving_renamed other name cover (standing now.slots) number
       (free_tables (given (circuit_of now)) other name cover (standing now.slots) away undriven sound.shaped (tables_read (circuit_of now) sound)) saving
 
-  -- under one name that no signal has, and so under each
+  -- under one name that no signal has, and so under each such name
   pub exact_from : (cover : NamedCover) (found : Option ℕ) → IsSaved (standing now.slots) name cover found → IsExact now cover (unwrap_or found 0)
   exact_from cover found is = λ other away.
       let worth = saved_worth (standing now.slots) name cover found is in
@@ -66,7 +67,7 @@ module _ (now : Placed) (name : List ℕ) (sound : IsSound (circuit_of now)) (un
         one = λ number saving. worth.one number (unrenamed other cover number away saving);
       }
 
--- ---- what is noted of a cover is set
+-- ---- the saving of a cover is set
 
 module _ (same_cover : NamedCover → NamedCover → Bool) (same : (one other : NamedCover) → same_cover one other ≡ true → one ≡ other) (itself : (cover : NamedCover) → same_cover cover cover ≡ true)
     (placed : Placed) (saving new : NamedCover → Option ℕ) (under new_under : List ℕ → List NamedCover) (cover : NamedCover) (name : List ℕ) (number : ℕ)

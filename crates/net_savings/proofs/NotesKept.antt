@@ -1,4 +1,4 @@
--- What is noted of candidates, kept while tables come and change.
+-- The savings of candidates, kept while tables are added and change.
 use Rattle.std.proofs.Common.{◌≡◌, ◌||◌, ℕ, ◌+◌, ◌<◌, ◌==◌, zero, suc, Bool, true, false, Option, Some, None, List, [], ◌∷◌, ◌++◌, length, get_or, take, set, slice_get, bytes_eq, if◌then◌else◌, refl, sym, ap, ap₂, ◌∙◌, subst, inl, inr, arith}
 use Rattle.std.specs.Global.{Vec}
 use Rattle.std.proofs.lemmas.Bool.{false≢true, eq-eqb, or_parts, or_cases, or_left, or_right, cases_lt}
@@ -20,7 +20,7 @@ use Rattle.net_savings.proofs.Refreshed.{has_name_next}
 use Rattle.net_savings.proofs.Sharers.{shared_by_same}
 use Rattle.net_savings.proofs.Untouched.{exact_after_set, exact_after_add}
 
--- a place is not among places, nor the last of them
+-- an index is neither among indices, nor the last of them
 not_pushed : (places : List ℕ) (place at : ℕ) → is_in (places ++ place ∷ []) at ≡ false → (is_in places at ≡ false) × (place ≡ at → ⊥)
 not_pushed [] place at h = (refl, λ e. false≢true (sym (or_parts (place == at) false h).0 ∙ eq-eqb place at e))
 not_pushed (first ∷ places) place at h =
@@ -32,7 +32,7 @@ not_pushed (first ∷ places) place at h =
     none true b h k = absurd (false≢true (sym h))
     none false b h k = k
 
--- what stands in a list with one more
+-- the items of a list with one more
 pub pushed_some : (own : List (Option (Vec NamedCover))) (at : ℕ) (covers : Vec NamedCover) → slice_get (own ++ None ∷ []) at ≡ Some (Some covers) → slice_get own at ≡ Some (Some covers)
 pushed_some [] zero covers e = absurd (none-some covers (same_Some None (Some covers) e))
 pushed_some [] (suc at) covers e = absurd (none-some (Some covers) e)
@@ -44,7 +44,7 @@ stays_some [] at covers e = absurd (none-some (Some covers) e)
 stays_some (first ∷ own) zero covers e = e
 stays_some (first ∷ own) (suc at) covers e = stays_some own at covers e
 
--- as many places as there are, and one more
+-- as many indices as there are, and one more
 pub first_more : (places : List ℕ) (place : ℕ) → ((at : ℕ) → at < place → is_in places at ≡ true) → (at : ℕ) → at < place + 1 → is_in (places ++ place ∷ []) at ≡ true
 first_more places place all at below =
     elim (cases_lt at place) as (λ _. is_in (places ++ place ∷ []) at ≡ true) [
@@ -63,7 +63,7 @@ first_more places place all at below =
     in_back [] e = or_left (place == at) false (eq-eqb place at e)
     in_back (first ∷ places) e = or_right (first == at) (is_in (places ++ place ∷ []) at) (in_back places e)
 
--- a table that stands before the last
+-- a table before the last
 not_last : (slots : List (Option Table)) (slot : Option Table) (at : ℕ) (table : Table) → (length slots ≡ at → ⊥) → table_at (slots ++ slot ∷ []) at ≡ Some table → table_at slots at ≡ Some table
 not_last [] slot zero table away e = absurd (away refl)
 not_last [] slot (suc at) table away e = absurd (none-some table e)
@@ -79,7 +79,7 @@ IsUnion one other both = (name : List ℕ) → has both name ≡ false → (has 
 neither : (one other : List (List ℕ)) (name : List ℕ) → has one name ≡ false → has other name ≡ false → has (one ++ other) name ≡ false
 neither one other name first second = list_any-append (bytes_eq name) one other ∙ ap₂ (λ (a b : Bool). a || b) first second
 
--- a name that is put into a set
+-- a name that is added to a set
 pub put_away : (keys more : List (List ℕ)) (name query : List ℕ) → more ≡ (if has keys name then keys else keys ++ name ∷ []) → has more query ≡ false → (has keys query ≡ false) × (bytes_eq query name ≡ false)
 put_away keys more name query e away = cases (has keys name) refl (sym (ap (λ (names : List (List ℕ)). has names query) e) ∙ away)
   where
@@ -95,7 +95,7 @@ put_away keys more name query e away = cases (has keys name) refl (sym (ap (λ (
     cases true there h = (h, apart (bytes_eq query name) refl there h)
     cases false there h = (let parts = has_neither keys (name ∷ []) query h in (parts.0, alone (bytes_eq query name) parts.1))
 
--- one name more of a list
+-- one more name of a list
 pub names_away : (names : List (List ℕ)) (i : ℕ) (one d query : List ℕ) → i < length names → one ≡ get_or names i d → has (take i names) query ≡ false → bytes_eq query one ≡ false → has (take (i + 1) names) query ≡ false
 names_away names i one d query below is before apart = cases (has (take (i + 1) names) query) refl
   where
@@ -195,7 +195,7 @@ module _ (rule : Rule) (now : Placed) (saving : NamedCover → Option ℕ) (unde
       neither touched new.inputs name parts.0 (subst (λ (ns : List (List ℕ)). has ns name ≡ false) inputs_is parts.1)))
       (notes_add new)))
 
--- nothing is noted, and all places are fresh
+-- no saving is set, and all indices are fresh
 pub notes_begin : (rule : Rule) (now : Placed) (saving : NamedCover → Option ℕ) (under : List ℕ → List NamedCover) (own : List (Option (Vec NamedCover))) (fresh : List ℕ)
     → ((cover : NamedCover) → saving cover ≡ None) → ((name : List ℕ) → under name ≡ []) → length own ≡ length now.slots
     → ((at : ℕ) (covers : Vec NamedCover) → slice_get own at ≡ Some (Some covers) → ⊥) → ((at : ℕ) → at < length now.slots → is_in fresh at ≡ true)

@@ -1,4 +1,5 @@
--- The tables whose rows may share two literals with rows of a given one, and what is listed of what they share.
+-- The tables whose rows may share two literals with rows of a given one, and what is listed of what
+-- they share.
 use Rattle.std.proofs.Common.{◌≡◌, ◌⊎◌, ℕ, ◌+◌, ◌<◌, ◌≤◌, eqb, eqb-true, true, false, Option, Some, None, List, [], ◌∷◌, ◌++◌, flat_map, length, take, get_or, bytes_eq, refl, sym, ap, ◌∙◌, subst, inl, inr, arith}
 use Rattle.std.specs.Global.{Vec}
 use Rattle.std.proofs.lemmas.Bool.{or_cases, or_left, or_right, false≢true}
@@ -22,9 +23,9 @@ use Rattle.net_savings.specs.Saving.{literals_in}
 use Rattle.net_savings.specs.Sharing.{cubes_in, AreSharers, IsSharedBy, AreSharedHere}
 use Rattle.net_savings.proofs.Sharers.{row_table, pair_none}
 
--- ---- readers of names besides one
+-- ---- fanouts of all names but one
 
--- places have those of all tables that read one of some names besides a given one
+-- indices include those of all tables that read one of some names other than a given one
 abbrev pub HaveReaders : List (Option Table) → List ℕ → List (List ℕ) → List ℕ → Type 0
 HaveReaders slots left names places = (at : ℕ) (table : Table) (name : List ℕ) → table_at slots at ≡ Some table → has table.inputs name ≡ true → has names name ≡ true → (name ≡ left → ⊥) → is_in places at ≡ true
 
@@ -51,7 +52,7 @@ readers_left slots left names i last d places below is same before at table name
       | inr e ↦ absurd (apart (e ∙ same))
     ]
 
--- the readers of the next name are put behind
+-- the fanouts of the next name are appended
 pub readers_more : (slots : List (Option Table)) (left : List ℕ) (names : List (List ℕ)) (i : ℕ) (last d : List ℕ) (places new : List ℕ) → i < length names → last ≡ get_or names i d
     → HaveReaders slots left (take i names) places → ((at : ℕ) → is_in places at ≡ true → is_in new at ≡ true)
     → ((at : ℕ) (table : Table) → table_at slots at ≡ Some table → has table.inputs last ≡ true → is_in new at ≡ true) → HaveReaders slots left (take (i + 1) names) new
@@ -73,7 +74,7 @@ pub in_right : (places more : List ℕ) (at : ℕ) → is_in more at ≡ true �
 in_right [] more at h = h
 in_right (first ∷ places) more at h = or_right (eqb first at) (is_in (places ++ more) at) (in_right places more at h)
 
--- ---- those of some places that are listed
+-- ---- those of some indices that are listed
 
 abbrev pub HaveListed : List (Option (Vec NamedCover)) → List ℕ → List ℕ → Type 0
 HaveListed own places listed = (at : ℕ) → is_in places at ≡ true → IsListed own at → is_in listed at ≡ true
@@ -135,7 +136,8 @@ only_more own places i last d listed new below is there put before at h =
 
 -- ---- partners
 
--- a table whose rows share with rows of another one is among the readers of the other's inputs besides any given one
+-- a table whose rows share with rows of another one is a fanout of one of the other's inputs other
+-- than any given one
 pub partner_read : (slots : List (Option Table)) (table : Table) (left : List ℕ) (one other : ℕ) (cover : NamedCover) (places : List ℕ) → all_different table.inputs ≡ true → (one ≡ other → ⊥)
     → AreSharers one other (Some table) (table_at slots other) cover → HaveReaders slots left table.inputs places → is_in places other ≡ true
 partner_read slots table left one other cover places once apart k have =
@@ -190,7 +192,7 @@ shared_across slots table partners one other cover among k =
     in_has (first ∷ places) at h =
         elim (or_cases (eqb first at) (is_in places at) h) as (λ _. Has at (first ∷ places)) [ inl e ↦ inl (sym (eqb-true first at e)) | inr n ↦ inr (in_has places at n) ]
 
--- where no table stands nothing is shared
+-- where there is no table nothing is shared
 none_share : (one other : ℕ) (second : Option Table) (cover : NamedCover) → AreSharers one other None second cover → ⊥
 none_share one other second cover k = elim k.rows as (λ _. ⊥) [ inl p ↦ p.1 | inr p ↦ pair_none k.row k.another p.1 ]
 

@@ -1,4 +1,4 @@
--- A table that is divided reads the signal of the cover, and at most that name more.
+-- A table that is divided reads the signal of the cover, and at most that one name in addition.
 use Rattle.std.proofs.Common.{◌≡◌, ℕ, ◌+◌, ◌≤◌, Bool, true, false, ◌||◌, Option, Some, List, [], ◌∷◌, ◌++◌, map, length, refl, sym, ap, ◌∙◌, subst, inl, inr, arith, bytes_eq}
 use Rattle.std.specs.List.{list_any}
 use Rattle.std.proofs.lemmas.Bool.{false≢true, or_cases}
@@ -16,7 +16,7 @@ use Rattle.alg_tables.proofs.Divisions.{joined_rows, rows_of, divisor, found, re
 use Rattle.circuit_tables.specs.Tidy.{IsWide, front_place, used_places, chosen, rows_once, narrowed, with_rows_once, some_row_or_phase_one}
 use Rattle.circuit_tables.proofs.Tidied.{tidied_is, chosen_small}
 
--- an input whose place is marked
+-- an input whose column is marked
 first_chosen : (mark : Bool) (marks : List Bool) (name : List ℕ) (names : List (List ℕ)) → mark ≡ true → has (chosen (mark ∷ marks) (name ∷ names)) name ≡ true
 unfolding chosen
 first_chosen true marks name names e = has_head name (chosen marks names)
@@ -39,7 +39,7 @@ last_chosen (input ∷ inputs) name (place ∷ row) mark rows long some =
     later_chosen (list_any (λ other. is_literal (front_place other)) ((place ∷ (row ++ mark ∷ [])) ∷ rows)) _ input (inputs ++ name ∷ []) name
     (last_chosen inputs name row mark _ (omega (arith, long)) some)
 
--- the same, of a row that ends with the literal
+-- the same for a row that ends with the literal
 ended_chosen : (inputs : List (List ℕ)) (name : List ℕ) (row whole : List Tri) (mark : Tri) (rows : List (List Tri)) → whole ≡ row ++ mark ∷ [] → length whole ≡ length (inputs ++ name ∷ [])
     → is_literal mark ≡ true → has (chosen (used_places (inputs ++ name ∷ []) (whole ∷ rows)) (inputs ++ name ∷ [])) name ≡ true
 ended_chosen inputs name row whole mark rows split long some =
@@ -81,7 +81,7 @@ one_more_different names name once free =
     })
 
 module _ (name : List ℕ) (bit : Bool) (cover : NamedCover) (table : Table) (once : all_different table.inputs ≡ true) (free : has table.inputs name ≡ false) (is : IsDivided name bit cover table) where
-  -- some row stands in what it becomes, so that this is no constant
+  -- what it becomes has a row, and so is no constant
   pub divided_narrowed : divided name bit cover table ≡ narrowed (with_rows_once (rejoined name bit table (divisor name bit cover table) (found name bit cover table)))
   unfolding rejoined
   divided_narrowed =

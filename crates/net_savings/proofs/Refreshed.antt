@@ -1,4 +1,5 @@
--- What is noted of candidates is made anew where changes touched it, and all of it is exact then.
+-- The savings of candidates are recomputed where changes touched them, and all of them are exact
+-- then.
 use Rattle.std.proofs.Common.{◌≡◌, ◌⊎◌, ℕ, ◌+◌, ◌<◌, ◌≤◌, zero, suc, Bool, true, false, Option, Some, None, List, [], ◌∷◌, ◌++◌, map, length, take, get_or, set, slice_get, refl, sym, ap, ◌∙◌, subst, inl, inr, arith, bytes_eq, ◌==◌}
 use Rattle.std.specs.Global.{Vec}
 use Rattle.std.proofs.lemmas.Bool.{false≢true, or_cases, or_left, or_right, eqb-true, cases_eq}
@@ -28,7 +29,7 @@ use Rattle.net_savings.proofs.Slots.{stands}
 use Rattle.net_savings.proofs.Found.{candidate_some}
 use Rattle.net_savings.proofs.Owning.{own_candidate}
 
--- ---- more is noted
+-- ---- more savings are set
 
 pub grown_both : (placed : Placed) (old between new : KnownCovers) → IsGrown placed old between → IsGrown placed between new → IsGrown placed old new
 grown_both placed old between new one other = record {
@@ -58,7 +59,7 @@ named_literal (cube ∷ cover) name h =
     some [] m = absurd (false≢true m)
     some (literal ∷ cube) m = omega arith
 
--- one item more
+-- one more item
 pub has_next : {X : Type 0} (xs : List X) (i : ℕ) (x d y : X) → i < length xs → x ≡ get_or xs i d → Has y (take (i + 1) xs) → Has y (take i xs) ⊎ (y ≡ x)
 has_next xs i x d y below is m =
     elim (Has-append y (take i xs) (x ∷ []) (subst (λ (ys : List _). Has y ys) (take_more xs i d below ∙ ap (λ z. take i xs ++ z ∷ []) (sym is)) m)) as (λ _. Has y (take i xs) ⊎ (y ≡ x)) [
@@ -88,7 +89,7 @@ in_next places i place d at below is h = in_last (take i places) (subst (λ (ps 
     ]
 
 module _ (placed : Placed) (old new : KnownCovers) (grown : IsGrown placed old new) where
-  -- all covers of some that stood under a name are right, and so are those that stand there now
+  -- all covers that were listed under a name are right, and so are those that are listed there now
   pub under_right : (covers : List NamedCover) (name : List ℕ) → covers ≡ covers_under old name → ((cover : NamedCover) → Has cover covers → IsRight placed (saving_in new) cover)
       → (cover : NamedCover) → Has cover (covers_under new name) → IsRight placed (saving_in new) cover
   under_right covers name is right cover m =
@@ -97,7 +98,7 @@ module _ (placed : Placed) (old new : KnownCovers) (grown : IsGrown placed old n
         | inr here ↦ here
       ]
 
-  -- covers under names are right that were so
+  -- covers under names stay right
   pub touched_next : (names : List (List ℕ)) (i : ℕ) (one d : List ℕ) → i < length names → one ≡ get_or names i d
       → ((under : List ℕ) (cover : NamedCover) → has (take i names) under ≡ true → Has cover (covers_under old under) → IsRight placed (saving_in old) cover)
       → ((cover : NamedCover) → Has cover (covers_under new one) → IsRight placed (saving_in new) cover)
@@ -152,16 +153,17 @@ list_here [] place covers below = absurd (omega (arith, below))
 list_here (first ∷ own) zero covers below = (covers, refl)
 list_here (first ∷ own) (suc place) covers below = list_here own place covers (omega (arith, below))
 
--- what is listed once one more place is
+-- what is listed after one more index is
 listed_was : (own : List (Option (Vec NamedCover))) (place at : ℕ) (covers : Vec NamedCover) → IsListed (set own place (Some covers)) at → IsListed own at ⊎ (at ≡ place)
 listed_was own place at covers (others, e) =
     elim (got_set own place at covers others e) as (λ _. IsListed own at ⊎ (at ≡ place)) [ inl k ↦ inl (others, k) | inr p ↦ inr p.0 ]
 
--- a place comes to those that are listed, and something is noted of what its table gives by itself, and together with those and with itself
+-- an index is added to those that are listed, and the savings are set of what its table gives by
+-- itself, and together with the listed ones and with itself
 module _ (rule : Rule) (placed : Placed) (known new : KnownCovers) (own : List (Option (Vec NamedCover))) (place : ℕ) (covers : Vec NamedCover) (together : List NamedCover) (is : AreTrue rule placed known own)
     (grown : IsGrown placed known new) (made : AreOwn rule (table_at placed.slots place) covers.items) (noted : (cover : NamedCover) → Has cover covers.items → IsNoted (saving_in new) cover)
     (shared : AreSharedHere rule placed.slots own place together) (noted_together : (cover : NamedCover) → Has cover together → IsNoted (saving_in new) cover) where
-  -- of two places that are listed the second is the new one
+  -- of two listed indices the second is the new one
   with_place : (one : ℕ) (cover : NamedCover) → IsListed own one ⊎ (one ≡ place) → IsSharedBy rule placed.slots one place cover → IsNoted (saving_in new) cover
   with_place one cover was by =
       elim (cases_eq one place) as (λ _. IsNoted (saving_in new) cover) [
@@ -201,7 +203,7 @@ module _ (rule : Rule) (placed : Placed) (known new : KnownCovers) (own : List (
   pub true_put : (new_own : List (Option (Vec NamedCover))) → new_own ≡ set own place (Some covers) → AreTrue rule placed new new_own
   true_put new_own own_is = subst (AreTrue rule placed new) (sym own_is) true_set
 
--- a place more is listed
+-- one more index is listed
 pub listed_next : (now : Placed) (own new_own : List (Option (Vec NamedCover))) (places : List ℕ) (i place d : ℕ) → i < length places → place ≡ get_or places i d → ((at : ℕ) → IsListed own at → IsListed new_own at)
     → (place < length now.slots → IsListed new_own place) → ((at : ℕ) → is_in (take i places) at ≡ true → at < length now.slots → IsListed own at)
     → (at : ℕ) → is_in (take (i + 1) places) at ≡ true → at < length now.slots → IsListed new_own at
@@ -220,7 +222,7 @@ own_literal rule now name sound new place covers own cover m = cases (table_at n
     cases None e h = absurd (subst (λ (cs : List NamedCover). Has cover cs) h m)
     cases (Some table) e h = candidate_some rule (circuit_of now) name sound new cover (own_candidate rule (standing now.slots) table cover (stands now.slots place table e) ((h.1 cover).0 m))
 
--- ---- all of it
+-- ---- the whole
 
 module _ (rule : Rule) (placed : Placed) (old new : KnownCovers) (own : List (Option (Vec NamedCover))) (touched : List (List ℕ)) (fresh : List ℕ)
     (notes : AreNotes rule placed (saving_in old) (covers_under old) own touched fresh) (grown : IsGrown placed old new)

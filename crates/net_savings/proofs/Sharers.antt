@@ -1,4 +1,4 @@
--- What two rows of tables at places share: whichever place comes first, and as rows of all tables that stand.
+-- What two rows of tables at indices share: whichever index comes first, and as rows of all tables.
 use Rattle.std.proofs.Common.{◌≡◌, ◌⊎◌, ℕ, ◌<◌, ◌≤◌, zero, suc, Option, Some, None, List, [], ◌∷◌, ◌++◌, length, refl, sym, ap, ap₂, ◌∙◌, subst, inl, inr, arith}
 use Rattle.std.proofs.lemmas.Bool.{cases_order}
 use Rattle.std.proofs.lemmas.List.{append_assoc}
@@ -85,14 +85,14 @@ pair_append {X} (first ∷ xs) ys x y k =
       ])
     ]
 
--- ---- rows of tables at places
+-- ---- rows of tables at indices
 
--- where there is a row there is a table
+-- an index with a row has a table
 pub row_table : (slot : Option Table) (row : Cube) → Has row (cubes_in slot) → (table : Table) × (slot ≡ Some table)
 row_table None row m = absurd m
 row_table (Some table) row m = (table, refl)
 
--- two rows stand at places: one at a place before the other, or both at one
+-- the indices of two rows: the first before the second, or both the same
 record ArePlaced (slots : List (Option Table)) (row another : Cube) : Type 0 where
   one : ℕ
   other : ℕ
@@ -132,7 +132,7 @@ rows_placed (Some table ∷ slots) row another k =
       ])
     ]
 
--- a row at a place is one of all tables
+-- a row at an index is one of all tables
 placed_row : (slots : List (Option Table)) (at : ℕ) (row : Cube) → Has row (cubes_in (table_at slots at)) → Has row (all_cubes (standing slots))
 unfolding standing
 placed_row [] at row m = absurd m
@@ -185,7 +185,7 @@ shared_by_turned Fx slots one other cover apart k = absurd k
 shared_by_turned Gkx slots one other cover apart k = absurd k
 shared_by_turned Gcx slots one other cover apart k = sharers_turned one other (table_at slots one) (table_at slots other) cover apart k
 
--- where the same tables stand
+-- if the tables are the same
 pub shared_by_same : (rule : Rule) (slots new : List (Option Table)) (one other : ℕ) (cover : NamedCover) → table_at slots one ≡ table_at new one → table_at slots other ≡ table_at new other
     → IsSharedBy rule slots one other cover → IsSharedBy rule new one other cover
 shared_by_same Fx slots new one other cover same same' k = absurd k
@@ -193,7 +193,7 @@ shared_by_same Gkx slots new one other cover same same' k = absurd k
 shared_by_same Gcx slots new one other cover same same' k =
     subst (λ (slot : Option Table). AreSharers one other (table_at new one) slot cover) same' (subst (λ (slot : Option Table). AreSharers one other slot (table_at slots other) cover) same k)
 
--- ---- what two rows of all tables share, two rows of tables at places do, and back
+-- ---- two rows of all tables share what two rows of tables at indices share, and conversely
 
 pub shared_at_places : (slots : List (Option Table)) (cover : NamedCover) → IsSharedCube (standing slots) cover
     → (one : ℕ) × (other : ℕ) × ((table : Table) × (table_at slots one ≡ Some table)) × ((table : Table) × (table_at slots other ≡ Some table)) × IsSharedBy Gcx slots one other cover

@@ -1,4 +1,4 @@
--- What rows share at places among which are those of all tables that read what they share.
+-- What rows share at indices that include those of all tables that read what they share.
 use Rattle.std.proofs.Common.{◌≡◌, ◌≢◌, ◌⊎◌, ◌↔◌, ℕ, ◌<◌, zero, suc, Bool, true, false, cond, eqb, eqb-true, Option, Some, None, List, [], ◌∷◌, ◌++◌, map, flat_map, filter, length, get_or, refl, sym, ap, ◌∙◌, subst, inl, inr, arith}
 use Rattle.std.specs.List.{list_all, list_any}
 use Rattle.std.specs.List.Sorted.{IsStrictlyIncreasing}
@@ -19,7 +19,7 @@ use Rattle.net_work.specs.Placed.{standing, table_at}
 use Rattle.net_savings.specs.Sharing.{cubes_in, AreSharers}
 use Rattle.net_savings.proofs.Sharers.{pair_first, row_table, slots_turned, shared_at_places, places_share}
 
--- ---- tables at places, as slots of their own
+-- ---- tables at indices, as slots of their own
 
 abbrev pub chosen : List (Option Table) → List ℕ → List (Option Table)
 chosen slots places = map (table_at slots) places
@@ -45,7 +45,7 @@ chosen_below slots [] i table e = absurd (none-some table e)
 chosen_below slots (at ∷ places) zero table e = omega arith
 chosen_below slots (at ∷ places) (suc i) table e = let below = chosen_below slots places i table e in omega (arith, below)
 
--- the index of a place
+-- the position of an index in a list of indices
 place_index : (places : List ℕ) (at : ℕ) → is_in places at ≡ true → (i : ℕ) × (i < length places) × (get_or places i 0 ≡ at)
 place_index [] at h = absurd (false≢true h)
 place_index (first ∷ places) at h =
@@ -54,7 +54,7 @@ place_index (first ∷ places) at h =
       | inr n ↦ (let p = place_index places at n in (suc p.0, (let below = p.1 in omega arith), p.2))
     ]
 
--- rising places differ
+-- rising indices differ
 places_differ : (places : List ℕ) (i j : ℕ) → IsStrictlyIncreasing places → i < length places → j < length places → (i ≡ j → ⊥) → get_or places i 0 ≡ get_or places j 0 → ⊥
 places_differ places i j rising first second apart e =
     elim (cases_order i j) as (λ _. ⊥) [
@@ -65,7 +65,7 @@ places_differ places i j rising first second apart e =
       ])
     ]
 
--- ---- what rows at the places share, rows of all tables do
+-- ---- what rows at the indices share, rows of all tables share
 
 index_sharers : (slots : List (Option Table)) (places : List ℕ) (i j : ℕ) (cover : NamedCover) → IsStrictlyIncreasing places → i < length places → j < length places
     → AreSharers i j (table_at (chosen slots places) i) (table_at (chosen slots places) j) cover
@@ -121,7 +121,7 @@ second_over : (table : Table) (row another : Cube) (cover : NamedCover) → shar
     → is_over table.inputs cover ≡ true
 second_over table row another cover same m is = first_over table another row cover m (is ∙ ap (λ (cube : Cube). cube ∷ []) same)
 
--- ---- what rows of all tables share, rows at the places do
+-- ---- what rows of all tables share, rows at the indices share
 
 module _ (slots : List (Option Table)) (places : List ℕ) (cover : NamedCover)
     (all : (at : ℕ) (table : Table) → table_at slots at ≡ Some table → is_over table.inputs cover ≡ true → is_in places at ≡ true) where
@@ -135,7 +135,7 @@ module _ (slots : List (Option Table)) (places : List ℕ) (cover : NamedCover)
       let (table, e) = row_table (table_at slots other) another m in
       place_index places other (all other table e (second_over table row another cover same (subst (λ (slot : Option Table). Has another (cubes_in slot)) e m) is))
 
-  -- what stands at an index
+  -- the table at a position
   index_is : (i at : ℕ) → i < length places → get_or places i 0 ≡ at → table_at slots at ≡ table_at (chosen slots places) i
   index_is i at below e = sym (chosen_at slots places i below ∙ ap (λ (n : ℕ). table_at slots n) e)
 
@@ -176,7 +176,7 @@ module _ (slots : List (Option Table)) (places : List ℕ) (cover : NamedCover)
       let (one, other, there, there', shares) = shared_at_places slots cover k in
       sharers_chosen one other shares
 
-  -- ---- what is answered
+  -- ---- the result
 
   pub shared_chosen : IsStrictlyIncreasing places → IsSharedOf (flat_map (λ at. cubes_in (table_at slots at)) places) cover ↔ IsSharedCube (standing slots) cover
   shared_chosen rising = (

@@ -1,4 +1,4 @@
--- Tables at places: what holds of each, and what stands once tables are divided and one is added.
+-- Tables by index: what holds of each, and the tables after some are divided and one is added.
 use Rattle.std.proofs.Common.{◌≡◌, ℕ, ◌<◌, zero, suc, Option, Some, None, List, [], ◌∷◌, ◌++◌, map, length, take, drop, set, refl, sym, ap, subst, inl, inr, arith}
 use Rattle.std.specs.List.{AllByRecursion}
 use Rattle.std.specs.Option.{option_map}
@@ -8,7 +8,7 @@ use Rattle.alg_div.specs.Cubes.{Has}
 use Rattle.net_work.specs.Placed.{standing, table_at}
 use Rattle.net_savings.specs.Listing.{told}
 
--- a table at a place is among those that stand, and what holds of all holds of it
+-- a table at an index is one of all tables, and what holds of all holds of it
 pub stands : (slots : List (Option Table)) (at : ℕ) (table : Table) → table_at slots at ≡ Some table → Has table (standing slots)
 unfolding standing
 stands [] at table e = absurd (none-some table e)
@@ -25,14 +25,14 @@ all_at P (None ∷ slots) all (suc at) table e = all_at P slots all at table e
 all_at P (Some first ∷ slots) all zero table e = subst P (same_Some first table e) all.0
 all_at P (Some first ∷ slots) all (suc at) table e = all_at P slots all.1 at table e
 
--- what holds at each place holds of all
+-- what holds at each index holds of all tables
 pub all_standing : (P : Table → Type 0) (slots : List (Option Table)) → ((at : ℕ) (table : Table) → table_at slots at ≡ Some table → P table) → AllByRecursion P (standing slots)
 unfolding standing
 all_standing P [] each = tt
 all_standing P (None ∷ slots) each = all_standing P slots (λ at table e. each (suc at) table e)
 all_standing P (Some first ∷ slots) each = (each 0 first refl, all_standing P slots (λ at table e. each (suc at) table e))
 
--- what stands at a place that is written as it is
+-- an index whose own table is written there
 pub set_same : (slots : List (Option Table)) (at : ℕ) (slot : Option Table) → slot ≡ table_at slots at → set slots at slot ≡ slots
 set_same [] at slot e = refl
 set_same (first ∷ slots) zero slot e = ap (λ (s : Option Table). s ∷ slots) e
@@ -55,7 +55,7 @@ module _ (turn : Table → Table) where
   standing_turned (None ∷ slots) = standing_turned slots
   standing_turned (Some first ∷ slots) = ap (λ (rest : List Table). turn first ∷ rest) (standing_turned slots)
 
--- one place more is taken
+-- one more index is taken
 pub standing_next : (slots : List (Option Table)) (at : ℕ) → at < length slots → standing (take (suc at) slots) ≡ standing (take at slots) ++ told (table_at slots at)
 unfolding standing
 standing_next [] at h = absurd (omega (arith, h))
@@ -64,7 +64,7 @@ standing_next (Some first ∷ slots) zero h = refl
 standing_next (None ∷ slots) (suc at) h = standing_next slots at (omega (arith, h))
 standing_next (Some first ∷ slots) (suc at) h = ap (λ (rest : List Table). first ∷ rest) (standing_next slots at (omega (arith, h)))
 
--- the tables before and behind one at a place
+-- the tables before and after one at an index
 pub standing_around : (slots : List (Option Table)) (at : ℕ) (table : Table) → table_at slots at ≡ Some table
     → standing slots ≡ standing (take at slots) ++ table ∷ standing (drop (suc at) slots)
 unfolding standing

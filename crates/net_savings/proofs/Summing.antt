@@ -1,4 +1,4 @@
--- Sums over places, each once, and over the tables that stand there.
+-- Sums over indices, each once, and over the tables there.
 use Rattle.std.proofs.Common.{◌≡◌, ℕ, ◌+◌, ◌<◌, ◌==◌, zero, suc, true, Option, Some, None, List, [], ◌∷◌, length, set, get_or, refl, sym, ap, ◌∙◌, subst, inl, inr, arith}
 use Rattle.std.specs.List.{sum_by, AllPairs}
 use Rattle.std.specs.List.Sorted.{IsStrictlyIncreasing}
@@ -12,7 +12,7 @@ use Rattle.net_readers.specs.Fanouts.{is_in}
 use Rattle.net_work.specs.Placed.{standing, joined, table_at}
 use Rattle.net_core.proofs.Lookups.{get_set_other}
 
--- a place among places
+-- an index among indices
 pub in_has : (places : List ℕ) (at : ℕ) → is_in places at ≡ true → Has at places
 in_has [] at h = absurd (false≢true h)
 in_has (first ∷ places) at h = elim (or_cases (first == at) (is_in places at) h) as (λ _. Has at (first ∷ places)) [
@@ -20,7 +20,7 @@ in_has (first ∷ places) at h = elim (or_cases (first == at) (is_in places at) 
   | inr k ↦ inr (in_has places at k)
 ]
 
--- places that rise stand once each
+-- rising indices occur once each
 has_index : (places : List ℕ) (at d : ℕ) → Has at places → (i : ℕ) × (i < length places) × (get_or places i d ≡ at)
 has_index [] at d m = absurd m
 has_index (first ∷ places) at d m = elim m as (λ _. (i : ℕ) × (i < length (first ∷ places)) × (get_or (first ∷ places) i d ≡ at)) [
@@ -44,7 +44,7 @@ module _ (f : Option Table → ℕ) (nothing : f None ≡ 0) where
   abbrev pub of_table : Table → ℕ
   of_table table = f (Some table)
 
-  -- the sum over all tables where it is nothing at each place
+  -- the sum over all tables if the summand at each index is 0
   sum_none : (slots : List (Option Table)) → ((at : ℕ) → f (table_at slots at) ≡ 0) → sum_by of_table (standing slots) ≡ 0
   unfolding standing
   sum_none [] none = refl
@@ -54,7 +54,7 @@ module _ (f : Option Table → ℕ) (nothing : f None ≡ 0) where
       let rest : sum_by of_table (standing slots) ≡ 0 = sum_none slots (λ at. none (suc at)) in
       omega (arith, here, rest, sum_by-cons of_table first (standing slots))
 
-  -- the table at a place, and all others
+  -- the table at an index, and all others
   sum_cleared : (slots : List (Option Table)) (at : ℕ) → sum_by of_table (standing slots) ≡ f (table_at slots at) + sum_by of_table (standing (set slots at None))
   unfolding standing
   sum_cleared [] at = omega (arith, nothing)
@@ -64,7 +64,7 @@ module _ (f : Option Table → ℕ) (nothing : f None ≡ 0) where
   sum_cleared (Some first ∷ slots) (suc at) =
       omega (arith, sum_cleared slots at, sum_by-cons of_table first (standing slots), sum_by-cons of_table first (standing (set slots at None)))
 
-  -- what stands at other places
+  -- the tables at other indices
   cleared_other : (slots : List (Option Table)) (at other : ℕ) → (at ≡ other → ⊥) → table_at (set slots at None) other ≡ table_at slots other
   cleared_other slots at other apart = ap joined (get_set_other slots at other None (λ e. apart (sym e)))
 
@@ -82,7 +82,7 @@ module _ (f : Option Table → ℕ) (nothing : f None ≡ 0) where
       sum_elsewhere slots at places (λ m. away (inr m)) in
       omega (arith, here, rest, sum_by-cons (λ place. f (table_at (set slots at None) place)) first places, sum_by-cons (λ place. f (table_at slots place)) first places)
 
-  -- the sum over places outside of which it is nothing is that over all tables
+  -- the sum over indices outside of which the summands are 0 is that over all tables
   pub sum_places : (places : List ℕ) (slots : List (Option Table)) → AreOnce places → ((at : ℕ) → (Has at places → ⊥) → f (table_at slots at) ≡ 0)
       → sum_by (λ place. f (table_at slots place)) places ≡ sum_by of_table (standing slots)
   sum_places [] slots once none = sym (sum_none slots (λ at. none at (λ m. m)))

@@ -1,4 +1,4 @@
--- Tables of the code that are divided: what they lose, and what is made of them.
+-- Tables of the program that are divided: what they lose, and what they become.
 use Rattle.std.proofs.Common.{◌≡◌, ℕ, ◌-◌, ltb, ◌&&◌, true, false, Some, None, List, [], length, sym, ap, ap₂, ◌∙◌, subst}
 use Rattle.sis_base.specs.Rows.{HasWidth}
 use Rattle.circuit_model.specs.Counts.{literals_of_table}

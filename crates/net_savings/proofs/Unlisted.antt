@@ -1,4 +1,4 @@
--- All tables up to a place can be listed, or the one at it is the first with too many kernels.
+-- All tables up to an index can be listed, or the one there is the first with too many kernels.
 use Rattle.std.proofs.Common.{◌≡◌, ℕ, ◌+◌, ◌<◌, suc, Option, Some, None, List, length, take, drop, refl, subst, sym, arith}
 use Rattle.std.specs.List.{AllByRecursion}
 use Rattle.circuit_model.specs.declared.circuit.Table.{Table}
@@ -12,7 +12,7 @@ use Rattle.net_savings.specs.declared.fault.SavingsFault.{SavingsFault}
 use Rattle.net_savings.specs.declared.fault.SavingsFault.TheVariants.{ManyKernels, Memory}
 use Rattle.net_savings.proofs.Slots.{all_at, standing_around, standing_next}
 
--- all tables before a place can be listed
+-- all tables before an index can be listed
 abbrev pub AreListable : Rule → List (Option Table) → ℕ → Type 0
 AreListable rule slots at = AllByRecursion (IsListable rule) (standing (take at slots))
 
@@ -24,7 +24,7 @@ told_listable : (rule : Rule) (slot : Option Table) (covers : List NamedCover) �
 told_listable rule None covers own = tt
 told_listable rule (Some table) covers own = (own.0, tt)
 
--- one place more
+-- one more index
 pub listable_next : (rule : Rule) (slots : List (Option Table)) (at : ℕ) (covers : List NamedCover) → at < length slots → AreListable rule slots at → AreOwn rule (table_at slots at) covers
     → AreListable rule slots (at + 1)
 listable_next rule slots at covers below before own =

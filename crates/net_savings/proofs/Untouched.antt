@@ -1,4 +1,5 @@
--- A table that does not read a name of a cover gives place to another one that does not, or comes: what the cover saves stays.
+-- What a cover saves stays if a table that does not read a name of the cover is added, or is
+-- replaced by another such one.
 use Rattle.std.proofs.Common.{◌≡◌, ℕ, zero, suc, Bool, true, false, Option, Some, None, List, [], ◌∷◌, ◌++◌, set, refl, sym, ap, ◌∙◌, subst, inl, arith}
 use Rattle.std.specs.List.{sum_by, AllByRecursion}
 use Rattle.std.proofs.lemmas.Bool.{false≢true}
@@ -42,7 +43,7 @@ module _ (name : List ℕ) (cover : NamedCover) (table : Table) (input : List �
       let same : literals_of_table (divided name true cover table) ≡ literals_of_table table = ap literals_of_table untouched_stays in
       omega (arith, same)
 
--- ---- a place
+-- ---- one index
 
 sum_set : (f : Table → ℕ) (slots : List (Option Table)) (place : ℕ) (old new : Table) → table_at slots place ≡ Some old → f old ≡ 0 → f new ≡ 0
     → sum_by f (standing (set slots place (Some new))) ≡ sum_by f (standing slots)

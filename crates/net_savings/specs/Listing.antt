@@ -1,4 +1,4 @@
--- What tables at places give by themselves, and which table is the first that gives too much to be
+-- What tables at indices give by themselves, and which table is the first that gives too much to be
 -- listed. Source: Brayton and McMullen, "The Decomposition and Factorization of Boolean
 -- Expressions" (1982): the kernels of a table. The limit on their number is the project's own.
 use Rattle.std.specs.Prelude.{◌≡◌, ◌↔◌, ℕ, ◌≤◌, Option, Some, None, List, [], ◌∷◌, length, slice_get}
@@ -19,7 +19,7 @@ abbrev pub AreOwn : Rule → Option Table → List NamedCover → Type 0
 AreOwn rule None covers = covers ≡ []
 AreOwn rule (Some table) covers = IsListable rule table × ((cover : NamedCover) → Has cover covers ↔ IsOwn rule table cover)
 
--- a table has too many kernels; want of memory needs no cause
+-- a table has too many kernels; running out of memory needs no cause
 abbrev pub IsMany : Rule → Table → SavingsFault → Type 0
 IsMany rule table (ManyKernels name) = HasManyKernels rule table × (table.output ≡ name)
 IsMany rule table Memory = Unit {0}
@@ -43,7 +43,7 @@ pub record AreKept (rule : Rule) (slots : List (Option Table)) (lists : List (Op
 abbrev pub IsListed : List (Option (Vec NamedCover)) → ℕ → Type 0
 IsListed own place = (covers : Vec NamedCover) × (slice_get own place ≡ Some (Some covers))
 
--- why the candidates of a circuit are not listed; want of memory is free
+-- why the candidates of a circuit are not listed; running out of memory needs no cause
 abbrev pub IsUnlisted : Rule → Circuit → SavingsFault → Type 0
 IsUnlisted rule circuit (ManyKernels name) = IsFirstMany rule circuit.tables name
 IsUnlisted rule circuit Memory = Unit {0}

@@ -1,6 +1,6 @@
--- Which covers are the same, and that their order tells just these apart. Source: Brayton, Rudell,
--- Sangiovanni-Vincentelli and Wang, "MIS: A Multiple-Level Logic Optimization System" (1987): the
--- order is the project's own. No public clause needs it but `cover_eq`.
+-- Which covers are the same, and that their order distinguishes exactly covers that differ. Source:
+-- Brayton, Rudell, Sangiovanni-Vincentelli and Wang, "MIS: A Multiple-Level Logic Optimization
+-- System" (1987): the order is the project's own. No public clause needs it but `cover_eq`.
 use Rattle.std.specs.Prelude.{◌≡◌, Bool}
 use Rattle.std.specs.Cmp.Lexicographic.{pointwise, lists_ties}
 use Rattle.std.specs.Ordering.{eq_by_cmp}

@@ -12,7 +12,7 @@ use Rattle.net_work.specs.Placed.{table_at}
 use Rattle.alg_tables.specs.Dividing.{divided, cover_table}
 use Rattle.sis_base.specs.declared.limits.TheConstants.{MAX_INPUTS}
 
--- how many literals a table loses if it is divided; none if there is no table
+-- how many literals a table loses if it is divided; 0 if there is no table
 abbrev pub lost_by : List ℕ → NamedCover → Table → ℕ
 lost_by name cover table = literals_of_table table - literals_of_table (divided name true cover table)
 
@@ -25,7 +25,7 @@ abbrev pub IsNarrowIn : List ℕ → NamedCover → Option Table → Type 0
 IsNarrowIn name cover None = Unit {0}
 IsNarrowIn name cover (Some table) = IsNarrow name cover table
 
--- what a table loses; or it has too many inputs then
+-- what a table loses; none if it would have too many inputs
 abbrev pub IsLoss : List ℕ → NamedCover → Option Table → Option ℕ → Type 0
 IsLoss name cover table None = IsNarrowIn name cover table → ⊥
 IsLoss name cover table (Some lost) = (lost ≡ lost_of name cover table) × IsNarrowIn name cover table
@@ -34,7 +34,7 @@ IsLoss name cover table (Some lost) = (lost ≡ lost_of name cover table) × IsN
 abbrev pub lost_at : List ℕ → NamedCover → List (Option Table) → List ℕ → ℕ
 lost_at name cover slots places = sum_by (λ place. lost_of name cover (table_at slots place)) places
 
--- what the tables at some indices lose together; or one of them has too many inputs then
+-- what the tables at some indices lose together; none if one of them would have too many inputs
 abbrev pub AreLosses : List ℕ → NamedCover → List (Option Table) → List ℕ → Option ℕ → Type 0
 AreLosses name cover slots places None = (place : ℕ) × (IsNarrowIn name cover (table_at slots place) → ⊥)
 AreLosses name cover slots places (Some lost) =

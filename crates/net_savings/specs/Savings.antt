@@ -1,5 +1,5 @@
--- What candidates save, kept while tables are added and change: what is noted of each, which tables
--- are listed, and what must be computed anew.
+-- What candidates save, kept while tables are added and change: the saving that is set for each,
+-- which tables are listed, and what must be recomputed.
 -- Source: the project's own representation.
 use Rattle.std.specs.Prelude.{◌≡◌, ◌⊎◌, ℕ, ◌≤◌, Bool, false, true, Option, Some, None, List, length, slice_get}
 use Rattle.std.specs.Global.{Vec}
@@ -33,28 +33,28 @@ pub record IsWorth (tables : List Table) (name : List ℕ) (cover : NamedCover) 
 abbrev pub IsExact : Placed → NamedCover → ℕ → Type 0
 IsExact placed cover number = (name : List ℕ) → IsUndriven placed name → IsWorth (standing placed.slots) name cover number
 
--- what is noted that a cover saves, if anything is, is exact
+-- the saving that is set for a cover, if one is, is exact
 abbrev pub IsRight : Placed → (NamedCover → Option ℕ) → NamedCover → Type 0
 IsRight placed saving cover = (number : ℕ) → saving cover ≡ Some number → IsExact placed cover number
 
--- each cover of which something is noted is found under a name, and each under a name has it
+-- each cover with a saving is found under a name, and each cover under a name has that name
 pub record AreFound (saving : NamedCover → Option ℕ) (under : List ℕ → List NamedCover) : Type 0 where
   pub found : (cover : NamedCover) (number : ℕ) → saving cover ≡ Some number → (name : List ℕ) × Has cover (under name)
   pub named : (name : List ℕ) (cover : NamedCover) → Has cover (under name) → has (names_in cover) name ≡ true
 
--- something is noted of a cover
+-- a saving is set for a cover
 abbrev pub IsNoted : (NamedCover → Option ℕ) → NamedCover → Type 0
 IsNoted saving cover = (number : ℕ) × (saving cover ≡ Some number)
 
--- something is noted of all covers that are listed
+-- savings are set for all covers that are listed
 abbrev pub AreNoted : (NamedCover → Option ℕ) → List (Option (Vec NamedCover)) → Type 0
 AreNoted saving own = (place : ℕ) (covers : Vec NamedCover) → slice_get own place ≡ Some (Some covers) → (cover : NamedCover) → Has cover covers.items → IsNoted saving cover
 
--- something is noted of all covers that tables give together which are listed
+-- savings are set for all covers that listed tables give together
 abbrev pub AreNotedShared : Rule → List (Option Table) → (NamedCover → Option ℕ) → List (Option (Vec NamedCover)) → Type 0
 AreNotedShared rule slots saving own = (one other : ℕ) (cover : NamedCover) → IsListed own one → IsListed own other → IsSharedBy rule slots one other cover → IsNoted saving cover
 
--- what is noted of covers under names that were not touched is exact; all tables are listed except
+-- the savings of covers under names that were not touched are exact; all tables are listed except
 -- those at fresh indices
 pub record AreNotes (rule : Rule) (placed : Placed) (saving : NamedCover → Option ℕ) (under : List ℕ → List NamedCover) (own : List (Option (Vec NamedCover))) (touched : List (List ℕ)) (fresh : List ℕ) : Type 0 where
   pub found : AreFound saving under
@@ -65,15 +65,15 @@ pub record AreNotes (rule : Rule) (placed : Placed) (saving : NamedCover → Opt
   pub shared : AreNotedShared rule placed.slots saving own
   pub listed : (place : ℕ) (table : Table) → table_at placed.slots place ≡ Some table → is_in fresh place ≡ false → IsListed own place
 
--- more may be noted than before, all that was right is right, and what is found anew under a name
--- is right
+-- more savings may be set than before, all that were right are right, and the cover of a name under
+-- which it was not found before is right
 pub record Grows (placed : Placed) (saving : NamedCover → Option ℕ) (under : List ℕ → List NamedCover) (new : NamedCover → Option ℕ) (new_under : List ℕ → List NamedCover) : Type 0 where
   pub right : (cover : NamedCover) → IsRight placed saving cover → IsRight placed new cover
   pub noted : (cover : NamedCover) → IsNoted saving cover → IsNoted new cover
   pub found : AreFound saving under → AreFound new new_under
   pub anew : (name : List ℕ) (cover : NamedCover) → Has cover (new_under name) → Has cover (under name) ⊎ IsRight placed new cover
 
--- all that is noted is exact, and lists are what tables give by themselves
+-- all savings that are set are exact, and lists are what tables give by themselves
 pub record AreTrue (rule : Rule) (placed : Placed) (known : KnownCovers) (own : List (Option (Vec NamedCover))) : Type 0 where
   pub found : AreFound (saving_in known) (covers_under known)
   pub right : (cover : NamedCover) → IsRight placed (saving_in known) cover
@@ -82,11 +82,11 @@ pub record AreTrue (rule : Rule) (placed : Placed) (known : KnownCovers) (own : 
   pub noted : AreNoted (saving_in known) own
   pub shared : AreNotedShared rule placed.slots (saving_in known) own
 
--- more is noted than before
+-- more savings may be set than before
 abbrev pub IsGrown : Placed → KnownCovers → KnownCovers → Type 0
 IsGrown placed known new = Grows placed (saving_in known) (covers_under known) (saving_in new) (covers_under new)
 
--- savings that are kept are those of the tables
+-- the savings kept are those of the tables
 abbrev pub AreSavings : Rule → Placed → CandidateQueue → Type 0
 AreSavings rule placed kept = AreNotes rule placed (saving_in kept.ranked) (covers_under kept.ranked) kept.own.items kept.touched.keys kept.fresh.items
 

@@ -1,8 +1,8 @@
 //! Covers, what each of them saves, and an index of covers by one name of each.
 //!
 //! A cover whose saving is set for the first time is appended to the list under a name that the
-//! caller gives, and stays there. Invariant (`IsRanked`): the ranking holds exactly the covers that
-//! save a literal or more. Callers rely on `saving` for what was set last, and on `ranking` to
+//! caller gives, and is not removed from it. The ranking holds exactly the covers that save a
+//! literal or more. Callers rely on `saving` for the saving that was set last, and on `ranking` to
 //! begin with the covers that save most. After an error anything may be known.
 
 ghost use Rattle.std.specs.Prelude.{◌≡◌, ◌&&◌, ◌++◌, ◌∷◌, [], ℕ, List, Some, None, length, bytes_eq, is_none, if◌then◌else◌, IfOk, OnOk};
@@ -22,8 +22,8 @@ use std::cmp::Reverse;
 use std::collections::BTreeSet;
 use std::marker::Model;
 
-/// Covers, what each of them saves, and under which name each is found; contracts see what is known
-/// of them.
+/// Covers, what each of them saves, and the name under which each is found. Contracts see what is
+/// known of them.
 #[derive(Drop)]
 pub(crate) struct RankedCovers {
     savings: Savings,
@@ -39,7 +39,7 @@ impl Model for RankedCovers {
 }
 
 impl RankedCovers {
-    /// No cover is known; takes no memory.
+    /// No covers. Allocates nothing.
     pub(crate) fn new(alloc: Global) -> RankedCovers
         ensures savings { (cover : NamedCover) → saving_in result cover ≡ None }
         ensures lists { (name : List ℕ) → covers_under result name ≡ [] }
@@ -50,7 +50,7 @@ impl RankedCovers {
         }
     }
 
-    /// Of how many covers it is known what they save.
+    /// The number of covers whose saving is known.
     pub(crate) fn len(&self) -> usize
         ensures { result ≡ length self.now.savings }
     {
@@ -64,8 +64,8 @@ impl RankedCovers {
         self.savings.get(cover)
     }
 
-    /// Sets what a cover saves; one that is not known yet is put behind those under a name. An
-    /// error only for want of memory; behind it anything may be known.
+    /// Sets what a cover saves; one whose saving is not known yet is appended to the list under a
+    /// name. After an error anything may be known.
     pub(crate) fn set(
         &mut self,
         alloc: Global,
@@ -83,7 +83,7 @@ impl RankedCovers {
         Ok(())
     }
 
-    /// The covers that stand under a name.
+    /// The covers that are listed under a name.
     pub(crate) fn under(&self, alloc: Global, name: &Name) -> Result<Vec<OrderedCover>, AllocError>
         ensures { IfOk result (λ covers. covers.items ≡ covers_under self.now name.now) }
     {
@@ -93,8 +93,8 @@ impl RankedCovers {
         }
     }
 
-    /// The covers that save a literal or more: that which saves most first, of equal ones the first
-    /// in the order of covers.
+    /// The covers that save a literal or more: the one that saves most first, and of those that
+    /// save as much the first in the order of covers.
     pub(crate) fn ranking(&self) -> &BTreeSet<(Reverse<u128>, OrderedCover)>
         ensures { AreRanked greatest_first cover_cmp (rank_in self.now) result.now.keys }
     {

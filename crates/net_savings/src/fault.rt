@@ -3,7 +3,7 @@
 use circuit_model::Name;
 use std::alloc::AllocError;
 
-/// Why candidates are not listed, or what they save is not kept.
+/// Why candidates are not listed, or their savings are not kept.
 #[derive(Debug, PartialEq, Drop)]
 pub enum SavingsFault {
     /// The table of this name has more than `MAX_KERNELS` kernels.

@@ -1,9 +1,9 @@
 //! What candidates save, kept while tables are added and change.
 //!
-//! Source: the project's own representation. A change only notes which names and tables it touches;
-//! the savings of covers with a touched name, and the candidates of touched tables, are computed
-//! anew before the next choice. Invariant (`AreSavings`): what is noted of any other cover is
-//! exact. Callers announce each change before they make it.
+//! Source: the project's own representation. A change only records which names and tables it
+//! touches; the savings of covers found under a touched name, and the candidates of touched tables,
+//! are recomputed before the next choice. Invariant (`AreSavings`): the saving that is set for any
+//! other cover is exact. Callers announce each change before they make it.
 
 ghost use Rattle.std.specs.Prelude.{◌≡◌, ℕ, ◌<◌, true, false, Some, None, List, length, slice_get, IfOk, OnOk};
 ghost use Rattle.std.specs.Global.{Vec as TheVec};
@@ -26,23 +26,24 @@ use net_work::WorkingNetwork;
 use sis_base::Copied;
 use std::alloc::{AllocError, Global};
 
-/// What candidates save, and what has to be made anew of it; of which network, contracts say by
+/// What candidates save, and what of it must be recomputed; for which network, contracts say by
 /// `AreSavings`.
 pub struct CandidateQueue {
-    // What covers save, in order, and found by a name of each.
+    // What covers save, in order, and found by one name of each.
     pub(crate) ranked: RankedCovers,
-    // What tables give by themselves, of those that are listed.
+    // What tables give by themselves, for those that are listed.
     pub(crate) own: OwnLists,
-    // The names that changed tables read or have read: what covers under them save is to be made
-    // anew.
+    // The names that changed tables read or have read: the savings of covers under them must be
+    // recomputed.
     pub(crate) touched: IndexSet<Name>,
-    // The places whose tables are to be listed anew.
+    // The indices of the tables that must be listed again.
     pub(crate) fresh: Vec<usize>,
-    // Where more covers are known, many may be given by no table any more, and all is begun anew.
+    // If more covers than this are known, many may be given by no table any more, and all is
+    // recomputed.
     pub(crate) bound: usize,
 }
 
-// By hand, so that letting it go is one call in the functions that own it.
+// Written out, so that dropping it is one call in the functions that own it.
 impl Drop for CandidateQueue {
     fn drop(self) {
         let CandidateQueue {
@@ -55,7 +56,7 @@ impl Drop for CandidateQueue {
     }
 }
 
-// As many lists as places, none of which is known, and all places.
+// So many lists, none of which is known, and all their indices.
 fn unknown_lists(alloc: Global, count: usize) -> Result<(OwnLists, Vec<usize>), AllocError>
     ensures long { IfOk result (λ made. length made.0.items ≡ count) }
     ensures none { IfOk result (λ made. (at : ℕ) (covers : TheVec NamedCover)
@@ -71,7 +72,7 @@ fn unknown_lists(alloc: Global, count: usize) -> Result<(OwnLists, Vec<usize>), 
     Ok((lists, places))
 }
 
-// Puts names to others.
+// Adds names to others.
 fn push_names(alloc: Global, names: &mut IndexSet<Name>, more: &[Name]) -> Result<(), AllocError>
     ensures { OnOk result ((name : List ℕ) → has names.new.keys name ≡ false
         → (has names.old.keys name ≡ false) × (has more.now name ≡ false)) }
@@ -83,7 +84,7 @@ fn push_names(alloc: Global, names: &mut IndexSet<Name>, more: &[Name]) -> Resul
 }
 
 impl CandidateQueue {
-    /// Nothing is known of a network: all places are fresh.
+    /// Nothing is known of a network: all indices are fresh.
     pub fn begin<R: Row>(
         alloc: Global,
         work: &WorkingNetwork<R>,
@@ -100,7 +101,7 @@ impl CandidateQueue {
         })
     }
 
-    // The table at a place gives way to one that reads other names.
+    // The table at an index is replaced by one that reads other names.
     fn touch(
         &mut self,
         alloc: Global,
@@ -120,8 +121,8 @@ impl CandidateQueue {
         Ok(())
     }
 
-    /// The table at a place of a network is about to change. An error only for want of memory;
-    /// behind it anything may be kept.
+    /// Announces that the table at an index of a network is about to change. After an error
+    /// anything may be kept.
     pub fn set<R: Row>(
         &mut self,
         alloc: Global,
@@ -142,8 +143,8 @@ impl CandidateQueue {
         }
     }
 
-    /// A table is about to come behind the last of a network. An error only for want of memory;
-    /// behind it anything may be kept.
+    /// Announces that a table is about to be added as the last of a network. After an error
+    /// anything may be kept.
     pub fn push<R: Row>(
         &mut self,
         alloc: Global,

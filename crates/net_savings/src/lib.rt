@@ -4,21 +4,20 @@
 //! Optimization System" (1987): the value of a divisor is the literals that it saves. What a
 //! candidate is, and which one is next, is defined by net_candidates. What a candidate saves
 //! changes only if a table that changes reads all its names, before or after the change. So each
-//! candidate is found by one name; what is found by the names of a table that changed is computed
-//! anew before the next choice, and the table is listed anew: its own candidates (`own`), and the
-//! cubes that its rows share with others (`sharing`). Promised (`specs/Savings.antt`,
+//! candidate is found by one of its names; what is found by the names of a table that changed is
+//! recomputed before the next choice, and the table is listed again: its own candidates (`own`),
+//! and the cubes that its rows share with others (`sharing`). Promised (`specs/Savings.antt`,
 //! `AreSavings`): savings that are begun for a network, and informed of each change, are those of
-//! the network; `best_saved` then gives exactly the next candidate, none exactly if extraction is
-//! done, or `ManyKernels` with the first table that has more kernels than are listed. Besides, this
-//! crate has the indices of the tables that can be divided by a cover, and whether a cover leaves
+//! the network; `best_saved` then returns exactly the next candidate, none exactly if extraction is
+//! done, or `ManyKernels` with the first table that has more kernels than are listed. This crate
+//! also has the indices of the tables that can be divided by a cover, and whether a cover leaves
 //! all tables narrow.
 //!
-//! What is known lies in `RankedCovers`, of which is promised (`specs/Ranking.antt`): what was set
-//! last for a cover is what it saves; under a name stand just the covers that were set under it
-//! when nothing was known of them, in that order; the ranking, the order of a queue (crate
-//! net_queue), has just the covers that save a literal or more, each saving more than all later
-//! ones, or as much and standing before them in the order of covers. Behind an error anything may
-//! be known.
+//! What is known is kept in `RankedCovers`, of which is promised (`specs/Ranking.antt`): the saving
+//! that was set last for a cover is what it saves; the list under a name has exactly the covers
+//! that were set under it when nothing was known of them, in that order; the ranking, the order of
+//! a queue (crate net_queue), has exactly the covers that save a literal or more, by falling saving
+//! and then in the order of covers. After an error anything may be known.
 #![tactic(auto)]
 
 mod covers;

@@ -1,4 +1,4 @@
-//! Tables are listed: what a table gives by itself, and together with the tables that were listed
+//! Lists tables: what a table gives by itself, and together with the tables that were listed
 //! before.
 
 ghost use Rattle.std.specs.Prelude.{◌≡◌, ℕ, ◌<◌, true, List, length, IfErr, OnOk};
@@ -21,7 +21,7 @@ use net_candidates::Rule;
 use net_work::WorkingNetwork;
 use std::alloc::Global;
 
-// What the table at a place gives is listed, unless it is, and what that saves is noted.
+// Lists what the table at an index gives, unless it is listed, and sets what that saves.
 fn list_place<R: Row>(
     alloc: Global,
     work: &WorkingNetwork<R>,
@@ -50,8 +50,8 @@ fn list_place<R: Row>(
     Ok(())
 }
 
-/// What the tables at places give is listed, and what that saves is noted. `ManyKernels` with the
-/// name of the first table that has too many kernels.
+/// Lists what the tables at indices give, and sets what that saves. `ManyKernels` with the name of
+/// the first table that has too many kernels.
 pub(crate) fn list_places<R: Row>(
     alloc: Global,
     work: &WorkingNetwork<R>,

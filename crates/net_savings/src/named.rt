@@ -1,6 +1,6 @@
 //! Lists of covers, each list under a name.
 //!
-//! A cover is appended to the list under its name, and no cover leaves a list.
+//! A cover is appended to the list under its name, and no cover is removed from a list.
 
 ghost use Rattle.std.specs.Prelude.{◌≡◌, ◌++◌, ◌∷◌, ◌&&◌, [], List, ℕ, bytes_eq, if◌then◌else◌, OnOk};
 ghost use Rattle.indexmap.specs.IndexMap.{get};
@@ -12,7 +12,7 @@ use indexmap::IndexMap;
 use sis_base::{Copied, Sequence};
 use std::alloc::{AllocError, Global};
 
-// Puts a cover behind those under a name.
+// Appends a cover to the list under a name.
 fn put_under(
     alloc: Global,
     lists: &mut IndexMap<Name, Sequence<OrderedCover>>,
@@ -33,7 +33,7 @@ fn put_under(
     Ok(())
 }
 
-/// Puts a cover behind those under a name, if it is new.
+/// Appends a cover to the list under a name, if it is new.
 pub(crate) fn list_new(
     alloc: Global,
     lists: &mut IndexMap<Name, Sequence<OrderedCover>>,

@@ -21,8 +21,9 @@ use net_work::WorkingNetwork;
 use sis_base::limits::MAX_INPUTS;
 use std::alloc::{AllocError, Global};
 
-// Whether the table at a place stays or becomes narrow, if one stands there. Division adds one
-// input at most, so that only a table that has as many as may be is divided to see it.
+// Whether the table at an index, if there is one, stays as it is or becomes narrow. Division adds
+// at most one input, so only a table that has as many inputs as are allowed is divided for the
+// test.
 fn is_narrow_at<R: Row>(
     alloc: Global,
     work: &WorkingNetwork<R>,
@@ -48,7 +49,7 @@ fn is_narrow_at<R: Row>(
     }
 }
 
-// Whether all tables at some places stay or become narrow.
+// Whether all tables at some indices stay as they are or become narrow.
 fn are_narrow_at<R: Row>(
     alloc: Global,
     work: &WorkingNetwork<R>,
@@ -69,8 +70,8 @@ fn are_narrow_at<R: Row>(
     Ok(true)
 }
 
-/// Whether a cover that is extracted under a new name leaves all tables narrow: none that it adds
-/// or changes has more than `MAX_INPUTS` inputs then.
+/// Whether all tables fit the limit if a cover is extracted under a new name: neither its own table
+/// nor any table that it changes then has more than `MAX_INPUTS` inputs.
 pub fn fits_input_limit<R: Row>(
     alloc: Global,
     work: &WorkingNetwork<R>,

@@ -25,7 +25,7 @@ impl Model for OrderedCover {
 }
 
 impl OrderedCover {
-    /// A cover by its order.
+    /// Wraps a cover.
     pub(crate) fn new(cover: NamedCover) -> OrderedCover
         ensures { result ≡ cover }
     {

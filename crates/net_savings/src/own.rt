@@ -1,7 +1,8 @@
-//! The candidates that the table at an index gives by itself, of a network at work.
+//! The candidates that the table at an index of a working network gives by itself.
 //!
-//! Callers rely on `AreOwn`: exactly these candidates, none where there is no table. `ManyKernels`
-//! names the first table of the network that has too many kernels, whichever index was asked for.
+//! Callers rely on `AreOwn`: exactly these candidates, none if there is no table. `ManyKernels` has
+//! the name of the first table of the network that has too many kernels, whichever index was asked
+//! for.
 
 ghost use Rattle.std.specs.Prelude.{◌≡◌, IfOk, IfErr};
 ghost use Rattle.std.specs.List.{AllByRecursion};
@@ -40,7 +41,7 @@ fn own_of<R: Row>(
     }
 }
 
-// What the table at a place gives by itself.
+// What the table at an index gives by itself.
 fn own_at<R: Row>(
     alloc: Global,
     work: &WorkingNetwork<R>,
@@ -56,7 +57,7 @@ fn own_at<R: Row>(
     }
 }
 
-// The first table with too many kernels, where there is one; or want of memory.
+// The first table with too many kernels, or `Memory` if memory runs out.
 fn first_many<R: Row>(alloc: Global, work: &WorkingNetwork<R>, rule: Rule) -> SavingsFault
     requires { AllByRecursion (IsListable rule) (standing work.now.slots) → ⊥ }
     ensures { IsUnlisted rule (circuit_of work.now) result }
@@ -70,8 +71,8 @@ fn first_many<R: Row>(alloc: Global, work: &WorkingNetwork<R>, rule: Rule) -> Sa
     unreachable!()
 }
 
-/// What the table at a place gives by itself; `ManyKernels` with the name of the first table of all
-/// that has too many kernels.
+/// What the table at an index gives by itself; `ManyKernels` with the name of the first table of
+/// the network that has too many kernels.
 pub(crate) fn own_made<R: Row>(
     alloc: Global,
     work: &WorkingNetwork<R>,

@@ -1,16 +1,16 @@
-//! The candidates that tables give by themselves, listed by index, where they are known.
+//! The candidates that tables give by themselves, listed by index, if they are known.
 //!
-//! An entry without a list is unknown, not empty: it is to be listed again.
+//! An entry without a list is unknown, not empty: it must be listed again.
 
 ghost use Rattle.std.specs.Prelude.{◌≡◌, ◌↔◌, Some, None, slice_get, slice_set, IsTrue, IfSome};
 ghost use Rattle.net_savings.specs.Listing.{IsListed};
 
 use cover_names::NamedCover;
 
-/// What the tables at places give by themselves, none where it is not known.
+/// What the tables at indices give by themselves; none if it is not known.
 pub(crate) type OwnLists = Vec<Option<Vec<NamedCover>>>;
 
-/// What was known of a place; it is not known any more.
+/// Removes and returns what was known for an index.
 pub(crate) fn taken(lists: &mut OwnLists, place: usize) -> Option<Vec<NamedCover>>
     ensures value { IfSome result (λ covers. slice_get lists.old.items place ≡ Some (Some covers)) }
     ensures rest { lists.new.items ≡ slice_set lists.old.items place None }
@@ -22,7 +22,7 @@ pub(crate) fn taken(lists: &mut OwnLists, place: usize) -> Option<Vec<NamedCover
     }
 }
 
-/// Whether what the table at a place gives by itself is listed.
+/// Whether what the table at an index gives by itself is listed.
 pub(crate) fn is_listed(own: &OwnLists, place: usize) -> bool
     ensures { IsTrue result ↔ IsListed own.now.items place }
 {
@@ -33,7 +33,7 @@ pub(crate) fn is_listed(own: &OwnLists, place: usize) -> bool
     }
 }
 
-/// What the table at a place gives by itself is known, if there is such a place.
+/// Sets what the table at an index gives by itself, if there is such an index.
 pub(crate) fn put_list(own: &mut OwnLists, place: usize, covers: Vec<NamedCover>)
     ensures { own.new.items ≡ slice_set own.old.items place (Some covers) }
 {

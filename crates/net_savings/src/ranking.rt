@@ -1,4 +1,4 @@
-//! How covers are ranked by what they save.
+//! The ranks of covers by what they save.
 
 use crate::ordered::OrderedCover;
 use net_queue::{Queue, Ranking};
@@ -6,11 +6,11 @@ use sis_base::Copied;
 use std::alloc::{AllocError, Global};
 use std::cmp::Reverse;
 
-/// What covers save, and those that save a literal or more in order: the greatest saving first, of
-/// equal ones the least cover.
+/// The priority queue of covers that save a literal or more: the greatest saving first, and of
+/// equal savings the least cover. It also has the savings of other covers.
 pub(crate) type Savings = Queue<OrderedCover, u128, Reverse<u128>, BySaving>;
 
-/// Covers that save a literal or more are ranked, the greatest saving first.
+/// Ranks covers that save a literal or more, the greatest saving first.
 pub(crate) struct BySaving;
 
 impl Ranking<OrderedCover, u128, Reverse<u128>> for BySaving {

@@ -1,7 +1,7 @@
 //! Brings the savings of candidates up to date after changes of the network.
 //!
-//! Covers found under a touched name get their saving anew, and fresh tables are listed anew.
-//! Callers rely on no name being touched and no table fresh afterwards.
+//! The savings of covers found under a touched name are recomputed, and fresh tables are listed
+//! again. Callers rely on no name being touched and no table fresh afterwards.
 
 ghost use Rattle.std.specs.Prelude.{◌≡◌, [], IfErr, OnOk};
 ghost use Rattle.circuit_model.specs.Soundness.{IsSound};
@@ -22,11 +22,11 @@ use net_work::WorkingNetwork;
 use std::alloc::Global;
 use std::mem;
 
-/// So many covers that no table gives any more are always let be.
+/// So many covers that no table gives any more are always tolerated.
 const STALE_COVERS: usize = 100;
 
-/// All that changes touched is made anew. `ManyKernels` with the name of the first table that has
-/// too many kernels.
+/// Recomputes all that changes touched. `ManyKernels` with the name of the first table that has too
+/// many kernels.
 pub(crate) fn refresh<R: Row>(
     alloc: Global,
     work: &WorkingNetwork<R>,
@@ -54,7 +54,7 @@ pub(crate) fn refresh<R: Row>(
         &mut kept.own,
         fresh.as_slice(),
     )?;
-    // so many as are known at the beginning, a quarter more, and some
+    // As many as are known at the beginning, a quarter more, and a constant.
     let known = kept.ranked.len();
     let bound = known.saturating_add(known / 4).saturating_add(STALE_COVERS);
     kept.bound = kept.bound.min(bound);

@@ -1,10 +1,10 @@
-//! Computes and notes what covers save: anew under touched names, and for covers that are not
+//! Computes and sets what covers save: again under touched names, and for covers that are not
 //! known.
 //!
-//! A cover is found under the name of its literals that fewest tables read, as of when it was first
-//! noted. Callers rely on `IsGrown`: what was noted right stays right, and what was noted stays
-//! noted. The name for the new signal is given; a saving is the same under any name that no signal
-//! has.
+//! A cover is found under the name of its literals that fewest tables read, counted when its saving
+//! was first set; no clause says which name it is. Callers rely on `IsGrown`: savings that are
+//! right stay right, and savings that are set stay set. The name for the new signal is given; a
+//! saving is the same under any name that no signal has.
 
 ghost use Rattle.std.specs.Prelude.{◌≡◌, ℕ, ◌≤◌, true, List, IfOk, OnOk};
 ghost use Rattle.circuit_model.specs.Names.{has};
@@ -27,7 +27,7 @@ use net_work::WorkingNetwork;
 use sis_base::Copied;
 use std::alloc::{AllocError, Global};
 
-// What a cover saves is noted, under a name of it where it is not known yet.
+// Sets what a cover saves, under a name of it if it is not known yet.
 fn renew<R: Row>(
     alloc: Global,
     work: &WorkingNetwork<R>,
@@ -53,7 +53,7 @@ fn renew<R: Row>(
     }
 }
 
-// What the covers under a name save is noted anew.
+// Recomputes what the covers under a name save.
 fn renew_under<R: Row>(
     alloc: Global,
     work: &WorkingNetwork<R>,
@@ -75,7 +75,7 @@ fn renew_under<R: Row>(
     Ok(())
 }
 
-/// What the covers under names save is noted anew.
+/// Recomputes what the covers under names save.
 pub(crate) fn renew_touched<R: Row>(
     alloc: Global,
     work: &WorkingNetwork<R>,
@@ -96,7 +96,7 @@ pub(crate) fn renew_touched<R: Row>(
     Ok(())
 }
 
-// What a cover saves is noted, unless it is.
+// Sets what a cover saves, unless it is set.
 fn note<R: Row>(
     alloc: Global,
     work: &WorkingNetwork<R>,
@@ -117,7 +117,7 @@ fn note<R: Row>(
     }
 }
 
-/// What covers save is noted, of those of which nothing is noted yet.
+/// Sets what covers save, for those for which no saving is set yet.
 pub(crate) fn note_all<R: Row>(
     alloc: Global,
     work: &WorkingNetwork<R>,

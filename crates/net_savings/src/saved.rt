@@ -2,9 +2,9 @@
 //!
 //! First the savings that changes touched are brought up to date; then the covers that save are
 //! searched, best first, for one that is still a candidate. Covers that no table gives any more are
-//! kept until there are too many of them. Callers rely on `AreSavings` after a call, on the best
-//! candidate exactly (`IsNext`), on none exactly if extraction is done, and on `ManyKernels` with
-//! the first table that has too many kernels.
+//! kept until there are too many of them. Callers rely on `AreSavings` after a call, on exactly the
+//! best candidate (`IsNext`), on none exactly if extraction is done, and on `ManyKernels` with the
+//! first table that has too many kernels.
 
 ghost use Rattle.std.specs.Prelude.{◌≡◌, ◌↔◌, ℕ, ◌≤◌, true, Some, [], slice_get, IsTrue, IfOk, IfErr, OnOk, MatchOption};
 ghost use Rattle.std.specs.List.{list_any};
@@ -42,7 +42,7 @@ fn is_among(covers: &[NamedCover], cover: &NamedCover) -> bool
     covers.iter().any(|other| *cover == *other)
 }
 
-// Whether a cover stands in a list, if there is one.
+// Whether a cover is in a list, if there is one.
 fn holds(list: &Option<Vec<NamedCover>>, cover: &NamedCover) -> bool
     ensures { result ≡ held list.now cover.now }
 {
@@ -52,7 +52,7 @@ fn holds(list: &Option<Vec<NamedCover>>, cover: &NamedCover) -> bool
     }
 }
 
-// Whether a cover stands in the list at a place.
+// Whether a cover is in the list at an index.
 fn is_held(own: &OwnLists, place: usize, cover: &NamedCover) -> bool
     ensures { result ≡ held_at (slice_get own.now.items place) cover.now }
 {
@@ -62,7 +62,7 @@ fn is_held(own: &OwnLists, place: usize, cover: &NamedCover) -> bool
     }
 }
 
-// Whether a cover stands in a list at one of some places.
+// Whether a cover is in a list at one of some indices.
 fn is_held_at(own: &OwnLists, places: &[usize], cover: &NamedCover) -> bool
     ensures { IsTrue result ↔ ((place : ℕ) × (is_in places.now place ≡ true)
         × IsIn own.now.items place cover.now) }
@@ -75,7 +75,7 @@ fn is_held_at(own: &OwnLists, places: &[usize], cover: &NamedCover) -> bool
     false
 }
 
-// Whether a cover is a candidate, where all tables are listed.
+// Whether a cover is a candidate, if all tables are listed.
 fn is_candidate<R: Row>(
     alloc: Global,
     work: &WorkingNetwork<R>,
@@ -97,7 +97,7 @@ fn is_candidate<R: Row>(
     }
 }
 
-// The first of the ranking that is a candidate, where all is made anew.
+// The first of the ranking that is a candidate, when all savings are up to date.
 fn first_saved<R: Row>(
     alloc: Global,
     work: &WorkingNetwork<R>,
@@ -122,9 +122,8 @@ fn first_saved<R: Row>(
     Ok(None)
 }
 
-// All is begun anew where so many covers are known that many may be given by no table any more. So
-// what is done for such covers is no more than a part of what is done for the others; no clause
-// says so.
+// Begins again if so many covers are known that many may be given by no table any more. So the work
+// for such covers is at most in proportion to the work for the others; no clause says so.
 fn begin_where_stale<R: Row>(
     alloc: Global,
     work: &WorkingNetwork<R>,
@@ -139,9 +138,9 @@ fn begin_where_stale<R: Row>(
     Ok(())
 }
 
-/// The best candidate of a network by a rule, under a new name: all that changes touched is made
-/// anew, and the first of the ranking is taken that is a candidate still; none where none saves a
-/// literal. `ManyKernels` with the name of the first table that has too many kernels.
+/// The best candidate of a network by a rule, under a new name: all savings that changes touched
+/// are recomputed, and the first of the ranking that is still a candidate is returned; none if none
+/// saves a literal. `ManyKernels` with the name of the first table that has too many kernels.
 pub fn best_saved<R: Row>(
     alloc: Global,
     work: &WorkingNetwork<R>,

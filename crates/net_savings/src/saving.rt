@@ -50,7 +50,8 @@ fn first_name(cover: &[Cube]) -> Option<&Name>
     None
 }
 
-// The one of two names that fewer tables read, the second where as many do.
+// The one of two names that fewer tables read, the second if as many do; no clause says which of
+// the two it is.
 fn rarer<'a, R: Row>(work: &WorkingNetwork<R>, one: &'a Name, other: &'a Name) -> &'a Name
     ensures { (result.now ≡ one.now) ⊎ (result.now ≡ other.now) }
 {
@@ -61,7 +62,8 @@ fn rarer<'a, R: Row>(work: &WorkingNetwork<R>, one: &'a Name, other: &'a Name) -
     }
 }
 
-// Of a name and those of a cube's literals the one that fewest tables read.
+// Of a name and those of a cube's literals the one that fewest tables read; no clause says which of
+// them it is.
 fn rarest_in<'a, R: Row>(work: &WorkingNetwork<R>, cube: &'a [Literal], name: &'a Name) -> &'a Name
     ensures { (result.now ≡ name.now)
         ⊎ ((literal : Literal) × Has literal cube.now × (literal.name ≡ result.now)) }
@@ -73,7 +75,8 @@ fn rarest_in<'a, R: Row>(work: &WorkingNetwork<R>, cube: &'a [Literal], name: &'
     rarest
 }
 
-/// The name of a cover's literals that fewest tables read.
+/// The name of a cover's literals that fewest tables read; no clause says which of them it is. None
+/// if the cover has no literal.
 pub(crate) fn rarest_name<'a, R: Row>(
     work: &WorkingNetwork<R>,
     cover: &'a [Cube],
@@ -88,7 +91,7 @@ pub(crate) fn rarest_name<'a, R: Row>(
     Some(rarest)
 }
 
-/// Places of the network, each once, in rising order, among which are those of all tables that read
+/// Indices of the network, each once, in rising order, which include those of all tables that read
 /// all that a cover reads.
 pub fn places_for<R: Row>(
     alloc: Global,
@@ -119,7 +122,8 @@ fn is_wide<R: Row>(table: &CoverTable<R>, name: &Name) -> bool
     MAX_INPUTS < table.inputs.len() && has_name(table.inputs.as_slice(), name)
 }
 
-/// What a table loses where it is divided by a cover; none where it has too many inputs then.
+/// The number of literals that a table loses if it is divided by a cover; none if it would have too
+/// many inputs.
 pub(crate) fn loss_of<R: Row>(
     alloc: Global,
     table: &CoverTable<R>,
@@ -146,7 +150,7 @@ pub(crate) fn loss_of<R: Row>(
     }
 }
 
-// What the table at a place loses, if one stands there.
+// The number of literals that the table at an index loses, 0 if there is none.
 fn loss_at<R: Row>(
     alloc: Global,
     work: &WorkingNetwork<R>,
@@ -164,7 +168,8 @@ fn loss_at<R: Row>(
     }
 }
 
-// The sum of two numbers; no machine has memory for so many literals that it is too large.
+// The sum of two numbers. An error if it is too large for a machine word; no machine has memory for
+// so many literals.
 fn sum_of(one: u128, other: u128) -> Result<u128, AllocError>
     ensures { IfOk result (λ sum. sum ≡ one + other) }
 {
@@ -174,7 +179,8 @@ fn sum_of(one: u128, other: u128) -> Result<u128, AllocError>
     }
 }
 
-// What the tables at some places lose together; none where one of them has too many inputs then.
+// The number of literals that the tables at some indices lose together; none if one of them would
+// have too many inputs.
 fn losses_at<R: Row>(
     alloc: Global,
     work: &WorkingNetwork<R>,
@@ -197,7 +203,7 @@ fn losses_at<R: Row>(
     Ok(Some(total))
 }
 
-// How much more than another number one is, if it is.
+// By how much a number, if there is one, exceeds another one; none if it does not.
 fn excess(lost: Option<u128>, own: u128) -> Option<u128>
     ensures { MatchOption result ((number : ℕ) → lost ≡ Some number → number ≤ own)
         (λ more. (lost ≡ Some (more + own)) × (1 ≤ more)) }
@@ -208,8 +214,8 @@ fn excess(lost: Option<u128>, own: u128) -> Option<u128>
     }
 }
 
-/// How many literals a cover saves that is extracted under a new name; none where it saves none, or
-/// a table has too many inputs then.
+/// The number of literals that a cover saves if it is extracted under a new name; none if it saves
+/// none, or a table would have too many inputs.
 pub(crate) fn saving_of<R: Row>(
     alloc: Global,
     work: &WorkingNetwork<R>,

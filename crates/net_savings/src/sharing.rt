@@ -32,7 +32,7 @@ use net_work::WorkingNetwork;
 use sis_base::Sequence;
 use std::alloc::{AllocError, Global};
 
-// The cubes of the table at a place, none where no table stands there.
+// The cubes of the table at an index, none if there is no table.
 fn cubes_at<R: Row>(
     alloc: Global,
     work: &WorkingNetwork<R>,
@@ -46,7 +46,7 @@ fn cubes_at<R: Row>(
     }
 }
 
-// Puts cubes behind others.
+// Appends cubes.
 fn push_cubes(cubes: &mut Vec<Cube>, more: NamedCover) -> Result<(), AllocError>
     ensures { OnOk result (cubes.new.items ≡ cubes.old.items ++ more) }
 {
@@ -56,7 +56,7 @@ fn push_cubes(cubes: &mut Vec<Cube>, more: NamedCover) -> Result<(), AllocError>
     Ok(())
 }
 
-// The cubes of the tables at places, in the order of the places.
+// The cubes of the tables at indices, in the order of the indices.
 fn cubes_at_all<R: Row>(
     alloc: Global,
     work: &WorkingNetwork<R>,
@@ -84,7 +84,7 @@ fn most_read<'a, R: Row>(work: &WorkingNetwork<R>, first: &'a Name, names: &'a [
     most
 }
 
-// Puts the places of the tables that read a name behind others.
+// Appends the indices of the fanouts of a name.
 fn push_readers<R: Row>(
     alloc: Global,
     work: &WorkingNetwork<R>,
@@ -101,7 +101,7 @@ fn push_readers<R: Row>(
     Ok(())
 }
 
-// The places of the tables that read one of some names besides a given one.
+// The indices of the tables that read one of some names other than a given one.
 fn readers_besides<R: Row>(
     alloc: Global,
     work: &WorkingNetwork<R>,
@@ -122,7 +122,7 @@ fn readers_besides<R: Row>(
     Ok(places)
 }
 
-// Those of some places that are listed; besides, which no clause says, in rising order, each once.
+// Those of some indices that are listed; in rising order and each once, which no clause says.
 fn listed_of(alloc: Global, own: &OwnLists, places: Vec<usize>) -> Result<Vec<usize>, AllocError>
     ensures all { IfOk result (λ listed. (at : ℕ) → is_in places.items at ≡ true
         → IsListed own.now.items at → is_in listed.items at ≡ true) }
@@ -141,7 +141,7 @@ fn listed_of(alloc: Global, own: &OwnLists, places: Vec<usize>) -> Result<Vec<us
     Ok(listed)
 }
 
-// The places that are listed and whose tables may share two literals with a given one.
+// The listed indices whose tables may share two literals with a given table.
 fn partners_of<R: Row>(
     alloc: Global,
     work: &WorkingNetwork<R>,
@@ -164,7 +164,7 @@ fn partners_of<R: Row>(
     }
 }
 
-// What the rows of a table share with one another, and with rows of those that are listed.
+// What the rows of a table share with one another, and with rows of the tables that are listed.
 fn shared_by_table<R: Row>(
     alloc: Global,
     work: &WorkingNetwork<R>,
@@ -188,8 +188,8 @@ fn shared_by_table<R: Row>(
     shared_with(alloc, cubes.as_slice(), others.as_slice())
 }
 
-/// What the table at a place gives together with itself and with those that are listed, where a
-/// rule asks for what rows share.
+/// What the table at an index gives together with itself and with those that are listed, if a rule
+/// asks for what rows share.
 pub(crate) fn shared_here<R: Row>(
     alloc: Global,
     work: &WorkingNetwork<R>,
@@ -206,7 +206,7 @@ pub(crate) fn shared_here<R: Row>(
     }
 }
 
-/// Whether two rows of a network share a cover, by the rows at places among which are those of all
+/// Whether two rows of a network share a cover, by the rows at indices that include those of all
 /// tables that read all its names.
 pub(crate) fn is_shared_at<R: Row>(
     alloc: Global,

@@ -1,4 +1,4 @@
--- What is maintained beside the tables stays right.
+-- What is maintained with the tables stays right.
 use Rattle.std.proofs.Common.{◌≡◌, ℕ, pos, ◌-ℤ◌, ◌+◌, ◌*◌, ◌<◌, ◌≤◌, zero, suc, Bool, true, false, ◌||◌, if◌then◌else◌, Option, Some, None, List, [], ◌∷◌, ◌++◌, length, set, take, get_or, slice_get, bytes_eq, IfSome, refl, sym, ap, ◌∙◌, subst, arith, inl, inr}
 use Rattle.std.specs.List.{AllByRecursion}
 use Rattle.std.specs.Option.{option_map}
@@ -59,7 +59,7 @@ unfolding AreOnce
 once_none R i e h = absurd (let z : None ≡ Some (Some e) = h in cc)
 
 module _ {R : Type 0} where
-  -- each table names its inputs once
+  -- each table lists its inputs once
   pub once_at : (slots : List (Option (Entry R))) (i : ℕ) (e : Entry R) → AreOnce slots → slice_get slots i ≡ Some (Some e) → all_different e.table.inputs ≡ true
   unfolding AreOnce
   once_at slots i e h at = h i e at
@@ -113,7 +113,7 @@ module _ {R : Type 0} where
   slot_once slots i None h at = tt
   slot_once slots i (Some e) h at = h i e at
 
-  -- the three changes, and where nothing is left
+  -- the three changes, and the network without tables
   pub kept_write : (frame : Circuit) (slots next : List (Option (Entry R))) (f : List ℕ → Option ℕ) (before after : Links) (number i : ℕ) (old : Entry R) (table : CoverTable R) → IsKeptUp frame slots f before number
       → slice_get slots i ≡ Some (Some old) → IsOverInputs table → all_different table.inputs ≡ true → next ≡ set slots i (Some (record { output = old.output; table = table }))
       → AreLinked after (set (written_slots slots) i (Some (named old.output table))) → IsKeptUp frame next f after number

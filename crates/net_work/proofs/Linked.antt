@@ -11,7 +11,7 @@ use Rattle.net_work.specs.Slots.{inputs_in, inputs_at, AreLinked}
 use Rattle.net_work.specs.declared.links.Links.{Links}
 use Rattle.net_work.proofs.Standing.{place_there, inputs_set, inputs_push, past_last, slot_uses, uses_push, uses_set, uses_there}
 
--- the same names are read at each index
+-- if the same names are read at each index
 readers_same : (told : List ℕ → ℕ → Bool) (some others : Inputs) → ((at : ℕ) → some at ≡ others at) → AreReaders told some → AreReaders told others
 readers_same told some others same all name place = all name place ∙ ap (λ (ns : List (List ℕ)). has ns name) (same place)
 

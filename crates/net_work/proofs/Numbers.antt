@@ -1,4 +1,4 @@
--- Numbers of different names: as far as a loop has come, and those of the inputs of a table.
+-- Numbers of different names: up to a step of a loop, and those of the inputs of a table.
 use Rattle.std.proofs.Common.{◌≡◌, ℕ, ◌+◌, ◌<◌, ◌≤◌, zero, suc, Bool, true, false, not, cond, ltb, if◌then◌else◌, Option, Some, None, List, [], ◌∷◌, ◌++◌, length, get_or, take, bytes_eq, position, option_map, refl, sym, ap, ◌∙◌, subst, arith, inl, inr}
 use Rattle.std.specs.List.{position_or_len}
 use Rattle.std.proofs.lemmas.Bool.{false≢true, lt-ltb, le-ltb, ltb-true, ltb-false}
@@ -10,7 +10,7 @@ use Rattle.net_core.specs.Reads.{rows_with, rows_at, uses_in}
 use Rattle.net_work.specs.Uses.{uses_from, AreUses, number_of}
 use Rattle.net_readers.proofs.Sets.{name_swapped}
 
--- one name more
+-- one more name
 taken_has : (names : List (List ℕ)) (i : ℕ) (d : List ℕ) → i < length names → has names (get_or names i d) ≡ true
 taken_has [] i d lt = absurd (omega (arith, lt))
 taken_has (first ∷ names) zero d lt = has_head first names
@@ -66,7 +66,7 @@ lost_more names numbers i d name e before now after lt long different is h more 
     ap (λ (n : ℕ). number_of (take n names) numbers other) next ∙ number_more names numbers i d name other e lt long different is in
     omega (arith, h other, more other, step)
 
--- what the next name is to lose is still there
+-- what is to be subtracted for the next name is still there
 number_up_to : (names : List (List ℕ)) (numbers : List ℕ) (i : ℕ) (other : List ℕ) → number_of (take i names) numbers other ≤ number_of names numbers other
 unfolding number_of
 number_up_to [] numbers zero other = omega arith
@@ -135,7 +135,7 @@ unfolding uses_from
 uses_long place [] rows = refl
 uses_long place (input ∷ inputs) rows = ap suc (uses_long (suc place) inputs rows)
 
--- one input more
+-- one more input
 uses_next : (rows : List (List Tri)) (names : List (List ℕ)) (place i : ℕ) → i < length names → uses_from place (take (suc i) names) rows ≡ uses_from place (take i names) rows ++ rows_with (place + i) rows ∷ []
 unfolding uses_from
 uses_next rows [] place i lt = absurd (omega (arith, lt))

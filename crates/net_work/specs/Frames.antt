@@ -1,4 +1,4 @@
--- What stands beside the tables of a network: the roots, and lists of the same names.
+-- The parts of a network besides its tables: the roots, and lists of the same names.
 -- Source: BLIF appendix of the SIS report (UCB/ERL M92/41): ports, latches, clocks and the
 -- don't-care part of a model.
 use Rattle.std.specs.Prelude.{◌≡◌, ℕ, List, ◌++◌}
@@ -6,7 +6,7 @@ use Rattle.circuit_model.specs.Names.{has}
 use Rattle.circuit_model.specs.Soundness.{latch_inputs}
 use Rattle.circuit_model.specs.declared.circuit.Circuit.{Circuit}
 
--- what outputs and latches take
+-- the outputs and the inputs of latches
 unfoldable pub roots_of : Circuit → List (List ℕ)
 roots_of circuit = circuit.outputs ++ latch_inputs circuit
 

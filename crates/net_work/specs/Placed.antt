@@ -51,7 +51,7 @@ with_slot placed place slot = record placed { slots = slice_set placed.slots pla
 abbrev pub with_last : Placed → Table → Placed
 with_last placed table = record placed { slots = placed.slots ++ Some table ∷ [] }
 
--- the answers of adding a table, and the network after each; if memory runs out, the network may be
+-- the results of adding a table, and the network after each; if memory runs out, the network may be
 -- any
 abbrev pub AddsLast : {R : Type 0} → Placed → CoverTable R → Placed → Result (List ℕ) AddFault → Type 0
 AddsLast old table new (Ok name) = (node_count (circuit_of old) < MAX_NODES) × IsNewName (circuit_of old) name × (new ≡ with_last old (named name table))

@@ -1,5 +1,5 @@
--- What is maintained beside the tables in their slots: the fanouts of each signal, its uses, the
--- index of each name, and a number up to which all names in brackets are taken. Source: Brayton,
+-- What is maintained with the tables in their slots: the fanouts of each signal, its uses, the
+-- index of each name, and a number up to which all names in brackets are in use. Source: Brayton,
 -- Rudell, Sangiovanni-Vincentelli and Wang, "MIS: A Multiple-Level Logic Optimization System"
 -- (1987): fanouts and values of nodes.
 use Rattle.std.specs.Prelude.{◌≡◌, ℕ, ◌<◌, true, false, Option, Some, None, List, [], map, slice_get}
@@ -17,15 +17,15 @@ use Rattle.net_work.specs.Uses.{told_uses}
 use Rattle.net_work.specs.Placed.{standing, table_at}
 use Rattle.net_work.specs.declared.links.Links.{Links}
 
--- the circuit's tables of entries
+-- the tables of entries as those of a circuit
 abbrev pub written_slots : {R : Type 0} → List (Option (Entry R)) → List (Option Table)
 written_slots slots = map (option_map written_of) slots
 
--- a table with its names alone, which is all that an order of tables depends on
+-- a table without its rows and phase: its names are all that an order of tables depends on
 abbrev pub bare : Table → Table
 bare table = record table { rows = []; phase = false }
 
--- the inputs of a table, none where there is none
+-- the inputs of a table, none if there is none
 abbrev pub inputs_in : Option Table → List (List ℕ)
 inputs_in None = []
 inputs_in (Some table) = table.inputs
@@ -43,11 +43,11 @@ pub record AreLinked (links : Links) (slots : List (Option Table)) : Type 0 wher
 unfoldable pub AreOnce : {R : Type 0} → List (Option (Entry R)) → Type 0
 AreOnce {R} slots = (place : ℕ) (entry : Entry R) → slice_get slots place ≡ Some (Some entry) → all_different entry.table.inputs ≡ true
 
--- below a number no name in brackets is free
+-- no name in brackets below a number is free
 abbrev pub AreTaken : Circuit → List Table → ℕ → Type 0
 AreTaken frame tables number = (other : ℕ) → other < number → has (used_names (with_tables frame tables)) (bracketed other) ≡ true
 
--- the invariant of a working network: all that is maintained beside the tables is right
+-- the invariant of a working network: all that is maintained with the tables is right
 pub record IsKeptUp {R : Type 0} (frame : Circuit) (slots : List (Option (Entry R))) (place_of : List ℕ → Option ℕ) (links : Links) (number : ℕ) : Type 0 where
   pub indexed : IsIndexed slots place_of
   pub over : AreOverInputs slots

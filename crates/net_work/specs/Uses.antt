@@ -24,7 +24,7 @@ number_of [] numbers name = 0
 number_of (first ∷ names) [] name = 0
 number_of (first ∷ names) (number ∷ numbers) name = if bytes_eq name first then number else number_of names numbers name
 
--- a count, 0 where there is none
+-- a count, 0 if there is none
 abbrev pub count_at : Option ℕ → ℕ
 count_at None = 0
 count_at (Some count) = count

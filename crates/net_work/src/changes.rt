@@ -1,9 +1,10 @@
 //! The calls that change a working network: `set`, `remove`, `add`.
 //!
 //! Each passes borrowed parts to `changing`, whose functions own no part of the network, and
-//! empties the network if memory runs out. Otherwise it changes one slot and nothing else, and all
-//! that is maintained beside the tables stays exact (`specs/Slots.antt`). A new table takes the
-//! least free name in brackets; `number` is a lower bound on it, which a removal resets to 0.
+//! empties the network if memory runs out; no clause says so. Otherwise it changes one slot and
+//! nothing else, and all that is maintained with the tables stays exact (`specs/Slots.antt`). A new
+//! table takes the least free name in brackets; `number` is a lower bound on it, which a removal
+//! resets to 0.
 
 ghost use Rattle.std.specs.Prelude.{◌≡◌, ℕ, ◌<◌, ◌≤◌, ◌↔◌, true, false, ◌||◌, Option, Some, None, List, is_some, bytes_eq, IfOk, OnOk, IsTrue};
 ghost use Rattle.indexmap.specs.IndexMap.{get};
@@ -26,7 +27,7 @@ use net_core::{AddFault, CoverTable, bracketed_name, found_place, is_full};
 use sis_base::limits::MAX_NODES;
 use std::alloc::{AllocError, Global};
 
-// Whether no new table may take a name.
+// Whether a name is not free for a new table.
 fn is_used(frame: &Frame, places: &IndexMap<Name, usize>, name: &Name) -> bool
     ensures { (tables : List Table) → is_some (get bytes_eq places.now name.now) ≡ has
         (outputs_of tables) name.now → result ≡ has
@@ -154,8 +155,8 @@ impl<R: Row> WorkingNetwork<R> {
         )
     }
 
-    // The least number in brackets that is not in use. No machine has memory for so many names that
-    // all numbers are.
+    // The least number in brackets that is not in use. An error if all are; no machine has memory
+    // for so many names.
     fn free_number(&self, alloc: Global) -> Result<u64, AllocError>
         ensures free { IfOk result (λ number. has (used_names (circuit_of self.now))
             (bracketed number) ≡ false) }

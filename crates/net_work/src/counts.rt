@@ -25,7 +25,7 @@ pub struct UseCounts {
     pub(crate) counts: IndexMap<Name, u64>,
 }
 
-// By hand, so that functions that own counts drop them in one call.
+// Written out, so that functions that own counts drop them in one call.
 impl Drop for UseCounts {
     fn drop(self) {
         let UseCounts { counts: _counts } = self;

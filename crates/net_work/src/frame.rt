@@ -2,7 +2,7 @@
 //! names and the roots.
 //!
 //! Source: BLIF appendix of the SIS report (UCB/ERL M92/41): ports, latches, clocks and the
-//! don't-care part of a model. Reserved names are those that no new table may take, apart from the
+//! don't-care part of a model. Reserved names are those that no new table may take, besides the
 //! names of tables; roots are the outputs and the inputs of latches. Both sets are built once and
 //! are exact for the circuit, which never changes.
 
@@ -20,14 +20,14 @@ use sis_base::Whole;
 use std::alloc::{AllocError, Global};
 use std::marker::Model;
 
-/// A circuit whose tables are ignored; contracts see it as the circuit.
+/// A circuit whose tables are ignored. Contracts see it as the circuit.
 pub struct Frame {
     circuit: Circuit,
     reserved: IndexSet<Name>,
     roots: IndexSet<Name>,
 }
 
-// By hand, so that functions that own a frame drop it in one call.
+// Written out, so that functions that own an interface drop it in one call.
 impl Drop for Frame {
     fn drop(self) {
         let Frame {
@@ -51,7 +51,7 @@ impl Model for Frame {
     ghost invariant = { λ f. HasSame f.reserved.keys (reserved_by f.circuit) × HasSame f.roots.keys (roots_of f.circuit) };
 }
 
-// Puts the inputs of latches among names.
+// Adds the inputs of latches to names.
 fn note_latch_inputs(
     alloc: Global,
     names: &mut IndexSet<Name>,
@@ -79,11 +79,11 @@ fn root_names(alloc: Global, circuit: &Circuit) -> Result<IndexSet<Name>, AllocE
 }
 
 impl Frame {
-    /// The frame of a circuit.
+    /// The interface of a circuit.
     pub fn of(alloc: Global, circuit: Circuit) -> Result<Frame, AllocError>
         ensures { IfOk result (λ frame. frame ≡ circuit) }
     {
-        // A whole, so that one call drops it.
+        // One value, so that one call drops it.
         let whole = Whole { it: circuit };
         let reserved = reserved_names(alloc, &whole.it)?;
         let roots = root_names(alloc, &whole.it)?;
@@ -94,7 +94,7 @@ impl Frame {
         })
     }
 
-    /// Whether no new table may take a name, apart from names of tables.
+    /// Whether no new table may take a name, besides the names of tables.
     pub fn is_reserved(&self, name: &Name) -> bool
         ensures { result ≡ has (reserved_by self.now) name.now }
     {

@@ -21,7 +21,7 @@ use net_core::{Entry, found_place};
 use sis_base::{Copied, Sequence};
 use std::alloc::{AllocError, Global};
 
-// The circuit's table of an entry, with its names alone.
+// The table of an entry as one of a circuit, with its names alone.
 #[tactic(auto, unfolding(net_core::specs::Tables::named))]
 fn bare_table<R: Row>(alloc: Global, entry: &Entry<R>) -> Result<Table, AllocError>
     ensures { IfOk result (λ table. table ≡ bare (written_of entry.now)) }
@@ -49,7 +49,7 @@ fn push_bare<R: Row>(
     Ok(())
 }
 
-// The circuit's tables of entries, with their names alone.
+// The tables of entries as those of a circuit, with their names alone.
 fn bare_tables<R: Row>(alloc: Global, slots: &[Option<Entry<R>>]) -> Result<Vec<Table>, AllocError>
     ensures { IfOk result (λ made. made.items ≡ map bare (present slots.now)) }
 {

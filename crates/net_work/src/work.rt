@@ -44,7 +44,7 @@ pub struct WorkingNetwork<R: Row> {
     pub(crate) number: u64,
 }
 
-// By hand, so that functions that own a working network drop it in one call.
+// Written out, so that functions that own a working network drop it in one call.
 impl<R: Row> Drop for WorkingNetwork<R> {
     fn drop(self) {
         let WorkingNetwork {
@@ -73,7 +73,7 @@ impl<R: Row> Model for WorkingNetwork<R> {
 }
 
 impl<R: Row> WorkingNetwork<R> {
-    /// The working network of a copy of a network, which stays.
+    /// The working network of a network, which stays; its parts are copied.
     pub fn of(alloc: Global, network: &Network<R>) -> Result<WorkingNetwork<R>, AllocError>
         ensures circuit { IfOk result (λ work. circuit_of work ≡ network.now) }
         ensures sound { IsSound network.now }
@@ -94,7 +94,7 @@ impl<R: Row> WorkingNetwork<R> {
             slots,
             places,
         } = network.into_parts(alloc);
-        // A whole, so that one call drops it.
+        // One value, so that one call drops it.
         let places = Whole { it: places };
         let frame = Frame::of(alloc, frame)?;
         let links = links_of(alloc, slots.as_slice())?;
@@ -147,7 +147,7 @@ impl<R: Row> WorkingNetwork<R> {
         self.slots.len()
     }
 
-    /// The index of the table of a name, if there is one.
+    /// The index of the table that drives a signal, if there is one.
     pub fn place_of(&self, name: &Name) -> Option<usize>
         ensures some { IfSome result (λ place. (table : Table)
             × (table_at self.now.slots place ≡ Some table) × (table.output ≡ name.now)) }
@@ -173,7 +173,7 @@ impl<R: Row> WorkingNetwork<R> {
         self.links.readers.places(alloc, name)
     }
 
-    /// The number of tables that read a name. No clause says so: it serves to choose between
+    /// The number of tables that read a name. No clause says so: it is used to choose between
     /// equivalent methods, for speed alone.
     pub fn reader_count(&self, name: &Name) -> usize {
         self.links.readers.count(name)

@@ -1,4 +1,5 @@
--- Turns, one after the other: what is left of an order leads where the whole order leads.
+-- Steps, one after the other: the rest of an order ends with the circuit with which the whole order
+-- ends.
 use Rattle.std.proofs.Common.{◌≡◌, ℕ, ◌<◌, ◌≤◌, ◌+◌, true, List, [], ◌∷◌, length, drop}
 use Rattle.std.proofs.Common.{get_or, refl, sym, ap, ◌∙◌, subst, inl, inr}
 use Rattle.std.proofs.lemmas.List.{drop_more, at_drop_all}
@@ -24,7 +25,7 @@ underway_first limit names circuit driven = record {
   faults = λ fault h. h;
 }
 
--- the turn of the next signal
+-- the step of the next signal
 turn_done : (limit : ℕ) (names rest : List (List ℕ)) (before now : Circuit) (name : List ℕ)
     → IsUnderway limit limit names (name ∷ rest) before now → Passes limit now name
     → outputs_of (with_minimum is_dont_care now name).tables ≡ outputs_of now.tables
@@ -40,7 +41,7 @@ turn_done limit names rest before now name along passes signals = record {
   faults = λ fault h. along.faults fault (inr (passes, h));
 }
 
--- the turn of a signal at a place of the order
+-- the step of a signal at a position of the order
 module _ (limit later : ℕ) (names : List (List ℕ)) (i : ℕ) (name d : List ℕ) (before now : Circuit)
     (low : i < length names) (there : name ≡ get_or names i d)
     (along : IsUnderway limit later names (drop i names) before now) where

@@ -1,5 +1,5 @@
--- What the functions of a table in its turn mean at points of its inputs: the table's own function,
--- where the points are free that are its don't-cares.
+-- What the functions of a table in its step mean at points of its inputs: the table's own function,
+-- with the points free that are its don't-cares.
 use Rattle.std.proofs.Common.{◌≡◌, ℕ, Bool, true, false, not, ◌&&◌, Option, Some, List, map, length}
 use Rattle.std.proofs.Common.{refl, sym, ap, ap₂, ◌∙◌, subst, inl, inr, ◌⊎◌}
 use Rattle.std.specs.List.{AllByRecursion}
@@ -26,7 +26,7 @@ use Rattle.odc_simplify.specs.Tested.{tested}
 use Rattle.odc_simplify.proofs.Points.{seen_here, seen_found}
 use Rattle.odc_simplify.proofs.Kept.{own_over, inputs_over, seen_over, values_of_names}
 
--- a point is seen of what one function and another one are true of, where the inputs tell the one
+-- a point is seen of what two functions are both true of, if the inputs determine the one
 pub seen_both : (count : ℕ) (inputs : List BooleanFunction) (own care : BooleanFunction)
     (test : List Bool → Bool) → IsOver count own → IsOver count care
     → AllByRecursion (IsOver count) inputs

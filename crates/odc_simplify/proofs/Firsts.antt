@@ -1,5 +1,5 @@
--- A list that is too long is told of the first table that has one, and of none where all turns
--- pass.
+-- The fault of a list that is too long has the name of the first table that has one, and there is
+-- none if all steps pass.
 use Rattle.std.proofs.Common.{◌≡◌, ℕ, true, false, List, [], ◌∷◌, inl, inr, sym, ◌∙◌}
 use Rattle.circuit_model.specs.declared.circuit.Circuit.{Circuit}
 use Rattle.sdc_simplify.specs.Simplified.{with_minimum, is_refused}

@@ -1,5 +1,5 @@
--- Tables give place to their minima under their don't-cares: the circuit stays sound, and the same
--- to whoever drives and watches it.
+-- Tables are replaced by their minima under their don't-cares: the circuit stays sound, and the
+-- same to whoever drives and watches it.
 use Rattle.std.proofs.Common.{◌≡◌, ℕ, Bool, true, false, not, Option, Some, None, List, [], ◌∷◌, map, fold}
 use Rattle.std.proofs.Common.{refl, sym, ap, ◌∙◌, subst, inl, inr, ◌⊎◌, ◌↔◌}
 use Rattle.std.specs.List.{AllByRecursion}
@@ -66,8 +66,8 @@ not_false : (b : Bool) → b ≡ false → not b ≡ true
 not_false true h = cc
 not_false false h = refl
 
--- a point is a don't-care just where the signal is seen at no bits of the leaves that give the
--- point
+-- a point is a don't-care exactly if the signal is observable at no bits of the leaves that give
+-- the point
 pub dont_care_at : (circuit : Circuit) (table : Table) (leaves : ℕ → Bool)
     → is_dont_care circuit table (map (λ input. own_function circuit input leaves) table.inputs)
     ≡ true
@@ -207,7 +207,7 @@ kept_through first second third before after = record {
   same = same_through first second third before.same after.same;
 }
 
--- a turn, and all of them
+-- one step, and all of them
 pub turn_kept : (circuit : Circuit) (name : List ℕ) → IsSound circuit
     → IsKept circuit (with_minimum is_dont_care circuit name)
 unfolding with_minimum
@@ -220,7 +220,8 @@ turn_kept circuit name sound = cases (driver circuit.tables name) refl
     cases None at = kept_itself circuit sound
     cases (Some table) at = least_kept circuit name table sound at
 
--- the table that is made in a turn may stand, and with it the circuit is that of the turn
+-- the table that is made in a step may replace the old one, and the circuit is then that of the
+-- step
 module _ (circuit : Circuit) (name : List ℕ) (made : Table) (sound : IsSound circuit)
     (driven : has (outputs_of circuit.tables) name ≡ true)
     (is : (table : Table) → driver circuit.tables name ≡ Some table

@@ -1,4 +1,4 @@
--- The turn of one table: what its functions mean, what their minimum is, and why there is none.
+-- The step of one table: what its functions mean, what their minimum is, and why there is none.
 use Rattle.std.proofs.Common.{◌≡◌, ℕ, suc, Bool, true, false, Option, Some, None, List, [], ◌∷◌}
 use Rattle.std.proofs.Common.{Result, Ok, Err, OnOk}
 use Rattle.std.proofs.Common.{map, length, if◌then◌else◌, refl, sym, ap, ap₂, ◌∙◌, subst, inl, inr, ◌⊎◌}
@@ -97,7 +97,7 @@ module _ {S : Type 0} (holds : S → ℕ → Type 0) (tree : S → ℕ → Tree)
         (subst (λ (gs : List BooleanFunction). AllByRecursion (IsOver (leaf_count circuit)) gs)
         (sym (functions_are (own_function circuit) names fs meant)) (inputs_over circuit names))
 
-    -- what is tested is what the turn of the table asks
+    -- what is tested is what the step of the table requires
     module _ (table : Table) (own seen : Func) (inputs : List Func)
         (owns : Means holds tree limit state own.0 (own_function circuit table.output))
         (sees : Means holds tree limit state seen.0 (is_seen circuit table.output))
@@ -166,7 +166,7 @@ module _ {S : Type 0} (holds : S → ℕ → Type 0) (tree : S → ℕ → Tree)
           ⊎ RefusesMinimum (held_meaning (held_by (tree state) leaves own seen inputs))
           (held_refusals bound (held_by (tree state) leaves own seen inputs)) rows)) same big)))
 
--- what holds anyway holds behind a call that is done
+-- what holds in any case holds after a call that succeeds
 pub always : {T E : Type 0} (P : Type 0) (result : Result T E) → P → OnOk result P
 always P (Ok made) h = h
 always P (Err fault) h = tt
@@ -176,7 +176,7 @@ pub refused_is : (circuit : Circuit) (name : List ℕ) (table : Table)
 refused_is circuit name table at =
     ap (λ (found : Option Table). option_map_or is_list_long found false) at
 
--- faults of the turn of a table
+-- faults of the step of a table
 module _ (limit : ℕ) (circuit : Circuit) (name : List ℕ) (table : Table)
     (at : driver circuit.tables name ≡ Some table) where
   pub list_failed : (fault : SimplifyFault) → table.output ≡ name

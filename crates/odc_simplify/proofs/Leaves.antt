@@ -1,5 +1,5 @@
--- Leaf assignments are the valuations of places: what a signal is worth, and where it is seen, goes
--- by the bits at the places of the leaves alone.
+-- Leaf assignments are the valuations of indices: the value of a signal, and where it is
+-- observable, depend only on the bits at the indices of the leaves.
 use Rattle.std.proofs.Common.{◌≡◌, ℕ, zero, suc, ◌+◌, ◌<◌, Bool, true, false, not, ◌&&◌, ◌||◌, List, [], ◌∷◌, ◌++◌, map, length}
 use Rattle.std.proofs.Common.{bytes_eq, refl, sym, ap, ap₂, ◌∙◌, append-nil, inl, inr, ◌⊎◌, arith}
 use Rattle.std.proofs.lemmas.Bool.{false≢true, or_cases, or_parts}
@@ -55,7 +55,7 @@ leaves_there circuit state row wide =
     ∙ bits_behind row state)
     (ap (λ (n : ℕ). bits_from 0 n (point_of state row)) (sym wide.1) ∙ bits_first row state)
 
--- valuations that agree at the places of the leaves give one leaf assignment
+-- valuations that agree at the indices of the leaves give one leaf assignment
 bits_same : (place count : ℕ) (one other : ℕ → Bool)
     → ((leaf : ℕ) → leaf < place + count → one leaf ≡ other leaf)
     → bits_from place count one ≡ bits_from place count other
@@ -87,7 +87,7 @@ any_agree F one other same rest ends [] = ends
 any_agree F one other same rest ends (name ∷ names) =
     ap₂ ◌||◌ (same name) (any_agree F one other same rest ends names)
 
--- where a signal is seen goes by the leaf assignment
+-- where a signal is observable depends only on the leaf assignment
 pub own_agrees : (circuit : Circuit) (signal : List ℕ) (one other : ℕ → Bool)
     → leaves_at circuit one ≡ leaves_at circuit other
     → own_function circuit signal one ≡ own_function circuit signal other
@@ -125,7 +125,7 @@ seen_agrees circuit name one other same =
     outputs (output ∷ names) = ap₂ ◌||◌ (shown_agrees circuit name output one other same)
         (outputs names)
 
--- a signal that is not seen changes no latch input, and is shown by no output
+-- a signal that is not observable changes no latch input, and is shown by no output
 none_before : (F : List ℕ → BooleanFunction) (point : ℕ → Bool) (rest : List BooleanFunction)
     (names : List (List ℕ))
     → list_any (λ (f : BooleanFunction). f point) (map F names ++ rest) ≡ false

@@ -37,7 +37,7 @@ module _ {S : Type 0} (holds : S → ℕ → Type 0) (tree : S → ℕ → Tree)
     same = last.same ∙ first.same;
   }
 
-  -- a number that stood stands for the same function
+  -- a number that was valid means the same function
   pub function_stays : (s t : S) (number : Func) → Stays holds tree limit s t → holds s number.0
       → function_of (tree t) number ≡ function_of (tree s) number
   function_stays s t number stays stands = ap eval (stays.kept number.0 stands).1
@@ -86,7 +86,7 @@ module _ {S : Type 0} (holds : S → ℕ → Type 0) (tree : S → ℕ → Tree)
   literal_at s (literal ∷ literals) (suc i) d lt are = literal_at s literals i d (omega
       (arith, lt)) are.1
 
-  -- what is held by numbers stays, and is ready on
+  -- what is held by numbers stays, and is still ready
   module _ {N : Type 0} (name : N) (s t : S) (leaves : ℕ) (on off : Func) (literals : List Literal)
       (stays : Stays holds tree limit s t)
       (ready : IsReadyBy (holds s) (tree s) leaves on off literals) where

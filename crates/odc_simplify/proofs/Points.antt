@@ -1,4 +1,4 @@
--- A product is false everywhere just where no point of its row is seen.
+-- A product is false everywhere exactly if no point of its row is seen.
 use Rattle.std.proofs.Common.{◌≡◌, ℕ, ◌<◌, zero, suc, Bool, true, false, not, ◌&&◌, ◌||◌, if◌then◌else◌}
 use Rattle.std.proofs.Common.{Option, Some, None, List, [], ◌∷◌, length, IsTrue, ◌↔◌}
 use Rattle.std.proofs.Common.{refl, sym, ap, ◌∙◌, ◌⊎◌, inl, inr, arith}
@@ -146,8 +146,9 @@ outside_bit f inputs (row ∷ rows) leaves =
     ∙ without_bits (f leaves) (matches row (values inputs leaves)) (some_matches rows
     (values inputs leaves))
 
--- a function that is true just where another is, where the literals of a row are, and where what is
--- seen passes a further test, is false everywhere just where the row has no point that passes both
+-- a function that is true exactly where another one is, where the literals of a row are, and where
+-- what is seen passes another test, is false everywhere exactly if the row has no point that passes
+-- both
 pub answer_is : (count : ℕ) (inputs : List BooleanFunction) (f made : BooleanFunction) (tree : Tree)
     (empty : Bool) (row : List (Option Bool)) (test also : List Bool → Bool) → IsReduced 0 tree
     → eval tree ≡ made → IsTrue empty ↔ (tree ≡ Zero)
@@ -196,7 +197,7 @@ and_one : (a : Bool) → a ≡ (a && true)
 and_one true = refl
 and_one false = refl
 
--- the product of a function and a row is true somewhere just where the row has a point that is seen
+-- the product of a function and a row is true somewhere exactly if the row has a point that is seen
 pub meets_answer : (count : ℕ) (inputs : List BooleanFunction) (f : BooleanFunction) (tree : Tree)
     (empty : Bool) (row : List (Option Bool)) → IsReduced 0 tree → eval tree ≡ product f inputs row
     → IsTrue empty ↔ (tree ≡ Zero) → length row ≡ length inputs → IsOver count f
@@ -208,7 +209,7 @@ meets_answer count inputs f tree empty row reduced is none wide over all =
     (values inputs leaves)))
     (λ point. and_one (seen_at count inputs f point)) wide over all
 
--- and what is left of it outside other rows, just where the row has one that they have not
+-- and so is what remains of it outside other rows, exactly if the row has one that they lack
 pub own_answer : (count : ℕ) (inputs : List BooleanFunction) (f : BooleanFunction) (tree : Tree)
     (empty : Bool) (row : List (Option Bool)) (others : List (List (Option Bool)))
     → IsReduced 0 tree → eval tree ≡ outside (product f inputs row) inputs others

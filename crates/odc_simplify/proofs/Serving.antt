@@ -1,4 +1,4 @@
--- Functions that are kept serve from turn to turn.
+-- Functions that are kept can be used from step to step.
 use Rattle.std.proofs.Common.{◌≡◌, ℕ, true, Some, List, ap, sym, ◌∙◌}
 use Rattle.circuit_model.specs.Names.{has}
 use Rattle.circuit_model.specs.Soundness.{outputs_of}
@@ -15,7 +15,7 @@ use Rattle.net_func.proofs.Replacing.{none_kept, later_kept, less_kept}
 use Rattle.odc_simplify.specs.Turns.{Serves}
 
 module _ {S : Type 0} (holds : S → ℕ → Type 0) (tree : S → ℕ → Tree) (limit : S → ℕ) where
-  -- at first, where nothing is kept
+  -- at first, when nothing is kept
   pub serves_first : (state : S) (circuit : Circuit) (kept : KeptFunctions) → IsReady kept
       → circuit_of kept ≡ circuit → KeepsNone kept → Serves holds tree limit state circuit kept
   serves_first state circuit kept ready same none = record {
@@ -24,7 +24,7 @@ module _ {S : Type 0} (holds : S → ℕ → Type 0) (tree : S → ℕ → Tree)
     right = none_kept holds tree limit state kept none;
   }
 
-  -- while numbers come
+  -- while numbers are added
   pub serves_later : (first second : S) (circuit : Circuit) (kept : KeptFunctions)
       → Stays holds tree limit first second → Serves holds tree limit first circuit kept
       → Serves holds tree limit second circuit kept
@@ -34,7 +34,7 @@ module _ {S : Type 0} (holds : S → ℕ → Type 0) (tree : S → ℕ → Tree)
     right = later_kept holds tree limit first second kept stays serves.right;
   }
 
-  -- where a table gives place to another one
+  -- if a table is replaced by another one
   pub serves_next : (state : S) (circuit later : Circuit) (before after : KeptFunctions)
       (new : Table) → Serves holds tree limit state circuit before → IsReady after
       → circuit_of after ≡ with_replaced (circuit_of before) new → KeepsSome before after

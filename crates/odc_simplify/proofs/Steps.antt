@@ -1,12 +1,12 @@
--- Products and what is left outside rows, step by step; and whether a function on the way is too
--- big.
+-- Products and what remains outside rows, step by step; and whether one of the functions built is
+-- too big.
 use Rattle.std.proofs.Common.{◌≡◌, ℕ, Bool, Option, List, [], ◌∷◌}
 use Rattle.std.proofs.Common.{refl, sym, subst, ◌⊎◌, inl, inr, ◌↔◌}
 use Rattle.func_core.specs.Trees.{BooleanFunction}
 use Rattle.odc_simplify.specs.Products.{with_literal, product, without, outside}
 use Rattle.odc_simplify.specs.Products.{IsBigWith, IsBigAlong, IsBigWithout, IsBigOutside}
 
--- what is left to do of a product makes the whole of it, and is refused where the whole is
+-- what is left to do of a product makes the whole of it, and is refused exactly if the whole is
 pub record IsAlong (limit : ℕ) (f : BooleanFunction) (inputs : List BooleanFunction)
     (row : List (Option Bool)) (now : BooleanFunction) (left : List BooleanFunction)
     (coming : List (Option Bool)) : Type 0 where
@@ -67,7 +67,7 @@ along_last limit f inputs row now left coming h e = (there.same, λ big. there.r
     there : IsAlong limit f inputs row now [] coming
     there = subst (λ (x : List BooleanFunction). IsAlong limit f inputs row now x coming) e h
 
--- what is left to take out makes the whole, and is refused where the whole is
+-- what is left to remove makes the whole, and is refused exactly if the whole is
 pub record IsTaking (limit : ℕ) (f : BooleanFunction) (inputs : List BooleanFunction)
     (rows : List (List (Option Bool))) (now : BooleanFunction)
     (coming : List (List (Option Bool))) : Type 0 where

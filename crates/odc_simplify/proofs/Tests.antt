@@ -1,5 +1,5 @@
--- The functions by which a table is tested, made of its own, of where it is seen, and of its
--- inputs, by numbers of one object.
+-- The functions by which a table is tested, made from its own, from where it is observable, and
+-- from its inputs, by numbers of one object.
 use Rattle.std.proofs.Common.{◌≡◌, ℕ, ◌<◌, ◌≤◌, zero, suc, ◌+◌, not, ◌&&◌, List, [], ◌∷◌, ◌++◌, length, map, get_or, take}
 use Rattle.std.proofs.Common.{refl, sym, ap, ap₂, ◌∙◌, subst, inl, inr, ◌⊎◌, add-one, arith}
 use Rattle.std.proofs.Math.Seq.{take-suc}
@@ -188,7 +188,7 @@ module _ {S : Type 0} (holds : S → ℕ → Type 0) (tree : S → ℕ → Tree)
         sym (length-map tests.literals.items (λ (l : Literal). function_of (tree t) l.positive))
         ∙ ap length are.inputs ∙ length-map inputs (function_of (tree s))
 
-    -- what is said of what is held later holds of what is held
+    -- what holds of the functions held later holds of those held before
     pub tests_carried : (P : ℕ → Held → Type 0) → Stays holds tree limit s t
         → P (limit t) (held_of (tree t) leaves tests.on tests.off tests.literals.items)
         → P (limit s) (held_by (tree s) leaves own seen inputs)

@@ -1,5 +1,5 @@
--- A table gives place to another one of its signal: at each leaf assignment either each signal
--- keeps its value, or each has the value that it had with the table's signal turned over.
+-- A table is replaced by another one with its signal: at each leaf assignment either each signal
+-- keeps its value, or each has the value that it had with the table's signal complemented.
 use Rattle.std.proofs.Common.{◌≡◌, ℕ, ◌<◌, Bool, true, false, not, Option, Some, unwrap_or, cond, List, bytes_eq}
 use Rattle.std.proofs.Common.{refl, sym, ap, ◌∙◌, inl, inr, ◌⊎◌, arith}
 use Rattle.std.specs.List.{AllByRecursion}
@@ -39,14 +39,14 @@ bits_or true false = inr refl
 bits_or false true = inr refl
 bits_or false false = inl refl
 
--- the values of all signals where one has the other bit than its own
+-- the values of all signals if one of them is complemented
 abbrev pub turned_values : Circuit → List ℕ → List Bool → List Bool → List ℕ → Bool
 turned_values circuit name state row signal =
     signal_value circuit.tables
     (fixed name (not (value_in circuit state row name)) (leaves_of circuit state row)) signal
 
--- either each signal keeps its value where a table gives place to another one, or the two tables
--- differ there, and each signal has the value that it had with theirs turned over
+-- either each signal keeps its value if a table is replaced by another one, or the two tables
+-- differ there, and each signal has the value that it had with theirs complemented
 abbrev pub KeepsOrTurns : Circuit → Table → Table → List Bool → List Bool → Type 0
 KeepsOrTurns circuit old new state row =
     ((signal : List ℕ) → value_in circuit state row signal
@@ -124,7 +124,8 @@ module _ (circuit : Circuit) (old new : Table) (settled : IsSettled circuit)
       ranked : HasRank circuit.tables
       ranked = acyclic_rank circuit.tables settled.acyclic
 
-  -- a valuation that is due outside the signal, and has the new table's value at it, is the new one
+  -- a valuation that solves the equations of all other tables, and has the new table's value at its
+  -- signal, is the new one
   made : (f : List ℕ → Bool)
       → ((signal : List ℕ) → bytes_eq signal new.output ≡ false
       → f signal ≡ due circuit.tables leaves f signal)
@@ -155,14 +156,14 @@ module _ (circuit : Circuit) (old new : Table) (settled : IsSettled circuit)
           ∙ sym (ap (λ (found : Option Table). unwrap_or (leaves name) (driven_value found f))
           (driver_replaced_other circuit.tables new name other))
 
-  -- where the tables have one value there each signal keeps its own
+  -- where the tables have one value each signal keeps its own
   kept_each : driven_value (Some new) value ≡ driven_value (Some old) value
       → (signal : List ℕ) → value signal ≡ value_in (with_replaced circuit new) state row signal
   kept_each same signal =
       made value (λ name other. value_due circuit settled.acyclic state row name)
       (value_obeys circuit settled state row new.output old at ∙ sym same) signal
 
-  -- and where they have not, each has its turned one
+  -- and where they have not, each has its value with the signal complemented
   turned_each : driven_value (Some new) value ≡ not (driven_value (Some old) value)
       → (signal : List ℕ) → turned signal ≡ value_in (with_replaced circuit new) state row signal
   turned_each differs signal =

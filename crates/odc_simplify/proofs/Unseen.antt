@@ -1,5 +1,5 @@
--- A table gives place to another one that differs from it only where its signal is not seen: the
--- circuit is the same to whoever drives and watches it.
+-- A table is replaced by another one that differs from it only where its signal is not observable:
+-- the circuit is the same to whoever drives and watches it.
 use Rattle.std.proofs.Common.{◌≡◌, ℕ, Bool, true, false, not, ◌&&◌, Some, List, refl, sym, ap, ◌∙◌, inl, inr}
 use Rattle.circuit_model.specs.Names.{has}
 use Rattle.circuit_model.specs.Values.{Leaves, driver, driven_value, signal_value, is_free_under}
@@ -25,7 +25,7 @@ left_open : (a b : Bool) → a ≡ false → (not a && b) ≡ false → b ≡ fa
 left_open true b e h = cc
 left_open false b e h = h
 
--- turning a signal over changes another one just where that has another value then
+-- complementing a signal changes another one exactly if that one then has another value
 changed_there : (circuit : Circuit) (name signal : List ℕ) (state row : List Bool)
     → IsAssignment circuit state row → is_changed circuit name signal (point_of state row)
     ≡ differ (value_in circuit state row signal) (turned_values circuit name state row signal)

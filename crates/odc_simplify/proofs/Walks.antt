@@ -1,4 +1,4 @@
--- What holds while a product is made literal by literal, or row after row is taken out of a
+-- What holds while a product is made literal by literal, or row after row is removed from a
 -- function, by numbers of one object.
 use Rattle.std.proofs.Common.{◌≡◌, ℕ, ◌<◌, ◌≤◌, suc, ◌+◌, Bool, true, Option, None, List, [], ◌∷◌, length, map, get_or, drop}
 use Rattle.std.proofs.Common.{refl, sym, ap, ◌∙◌, subst, inl, inr, ◌⊎◌, Result, Ok, Err, OnOk, add-one, arith}
@@ -19,8 +19,7 @@ module _ {S : Type 0} (holds : S → ℕ → Type 0) (tree : S → ℕ → Tree)
   pub stays_itself : (s : S) → Stays holds tree limit s s
   stays_itself s = record { kept = λ n stands. (stands, refl); same = refl }
 
-  -- what is said of a later state, of the numbers' functions there, holds of the functions of
-  -- before
+  -- what holds of a later state, for the numbers' functions there, holds of the earlier functions
   pub carried : (P : ℕ → BooleanFunction → List BooleanFunction → Type 0) (s t : S) (number : Func)
       (f : BooleanFunction) (literals : List Literal) → Stays holds tree limit s t
       → AreLiterals (holds s) (tree s) literals → Gives (holds t) (tree t) number f
@@ -41,7 +40,7 @@ module _ {S : Type 0} (holds : S → ℕ → Type 0) (tree : S → ℕ → Tree)
       (subst (λ (x : BooleanFunction). P (limit t) x g) first.computes
       (subst (λ (x : BooleanFunction). P (limit t) (function_of (tree t) one) x) second.computes h))
 
-  -- a number that stood gives its function later
+  -- a number that was valid gives its function later
   pub gives_then : (s t : S) (number : Func) → Stays holds tree limit s t → holds s number.0
       → Gives (holds t) (tree t) number (function_of (tree s) number)
   gives_then s t number stays stands =
@@ -172,7 +171,7 @@ module _ {S : Type 0} (holds : S → ℕ → Type 0) (tree : S → ℕ → Tree)
         (inputs_stay holds tree limit first one literals stays are));
   }
 
-  -- what is said of the product with it holds of the function without the row
+  -- what holds of the product with it holds of the function without the row
   pub without_carried : (P : ℕ → BooleanFunction → Type 0) (first one two three : S)
       (from all made left : Func) (literals : List Literal) (row : List (Option Bool))
       → holds first from.0 → AreLiterals (holds first) (tree first) literals
@@ -269,7 +268,7 @@ module _ {S : Type 0} (holds : S → ℕ → Type 0) (tree : S → ℕ → Tree)
       (inputs_of (tree first) literals) rows (function_of (tree now) left) coming out.taking done in
       (record { stands = out.stands; computes = last.0 }, last.1)
 
--- the rows from a place on
+-- the rows from an index on
 pub rows_from : {X : Type 0} (f : X → List (Option Bool)) (rows : List X) (i : ℕ) (row : X)
     → i < length rows → row ≡ get_or rows i row
     → map f (drop i rows) ≡ f row ∷ map f (drop (i + 1) rows)
@@ -277,7 +276,7 @@ rows_from {X} f rows i row low is =
     rw add-one (ap (map f) (drop-cons rows i row low ∙ ap (λ (x : X). x ∷ drop (suc i) rows)
     (sym is)))
 
--- neither of two, where it is not the one and not the other
+-- neither of two, if it is not the one and not the other
 pub neither : (A B : Type 0) → (A → ⊥) → (B → ⊥) → A ⊎ B → ⊥
 neither A B first second (inl a) = first a
 neither A B first second (inr b) = second b

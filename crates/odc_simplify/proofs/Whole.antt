@@ -1,4 +1,4 @@
--- Full simplification: all turns of a network, and the bounds that it keeps.
+-- Full simplification: all steps of a network, and the bounds that it keeps.
 use Rattle.std.proofs.Common.{◌≡◌, ℕ, true, List, [], ◌∷◌, fold, sym, ap, ◌∙◌, subst}
 use Rattle.circuit_model.specs.Names.{has}
 use Rattle.circuit_model.specs.Soundness.{outputs_of, IsSound}
@@ -26,7 +26,7 @@ turns_bounded limit (name ∷ names) circuit sound bounds passed =
     (turn_kept circuit name sound).sound
     (turn_bounded is_dont_care circuit name sound bounds passed.0.short) passed.1
 
--- a copy of a network after the turns of its order
+-- a copy of a network after the steps of its order
 module _ (limit : ℕ) (network copy : Circuit) (names : List (List ℕ)) (same : copy ≡ network)
     (ordered_so : names ≡ order_of network.tables) where
   whole : (P : Circuit → List (List ℕ) → Type 0) → P copy names

@@ -1,5 +1,5 @@
 -- The combinational don't-cares of a table, and the tables of a circuit made minimal under them,
--- one after the other: the don't-cares of a turn are those of the circuit of that turn. Source: De
+-- one after the other: the don't-cares of a step are those of the circuit at that step. Source: De
 -- Micheli, "Synthesis and Optimization of Digital Circuits", chapter 8 (satisfiability and
 -- observability don't-care conditions; simplification of one vertex after the other); the SIS
 -- report (UCB/ERL M92/41), `full_simplify`, which takes compatible subsets of them for all

@@ -1,6 +1,6 @@
 -- The functions that an oracle over numbered functions holds, and how they stay.
 -- Source: R. E. Bryant, "Graph-Based Algorithms for Boolean Function Manipulation", IEEE
--- Transactions on Computers C-35 (1986), where a function is named by a vertex of a graph.
+-- Transactions on Computers C-35 (1986), where a function is identified by a vertex of a graph.
 use Rattle.std.specs.Prelude.{◌≡◌, ℕ, List, map, refl}
 use Rattle.std.specs.List.{AllByRecursion}
 use Rattle.std.proofs.Common.{sym, ◌∙◌, subst}
@@ -71,7 +71,7 @@ pub record IsReadyBy (holds : ℕ → Type 0) (tree : ℕ → Tree) (leaves : �
   pub inputs_over : AllByRecursion (IsOver leaves) (inputs_of tree literals)
 
 -- it is the same object, whose numbers stay; the same functions are held, and what was ready is
--- ready
+-- still ready
 pub record Keeps {N S : Type 0} (holds : S → ℕ → Type 0) (tree : S → ℕ → Tree) (limit : S → ℕ)
     (name later_name : N) (before after : S) (held later : Held)
     (Ready Later : Type 0) : Type 0 where

@@ -32,8 +32,8 @@ tested circuit table = record {
 }
 
 -- why a table is not made minimal: a part is too big of the function of a signal, or of where the
--- table's signal is observable; or where it is 1 and observable, or 0 and observable; or what a
--- test builds of these
+-- table's signal is observable; or where it is 1 and observable, or 0 and observable; or a function
+-- that a test builds from these
 abbrev pub IsTooBig : ℕ → Circuit → Table → Type 0
 IsTooBig limit circuit table =
     ((signal : List ℕ) × IsBigAt limit circuit.tables (own_function circuit) signal)

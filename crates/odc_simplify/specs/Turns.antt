@@ -1,4 +1,4 @@
--- The functions held, as numbers of an object, in the step of a table, and the answers of the steps
+-- The functions held, as numbers of an object, in the step of a table, and the results of the steps
 -- of an order.
 -- Source: De Micheli, "Synthesis and Optimization of Digital Circuits", chapter 8 (simplification
 -- of one vertex after the other); the SIS report (UCB/ERL M92/41), `full_simplify`. The limit on
@@ -30,8 +30,8 @@ use Rattle.odc_simplify.specs.declared.tested.Tested.{Tested}
 use Rattle.odc_simplify.specs.declared.fault.FullFault.{FullFault}
 use Rattle.odc_simplify.specs.declared.fault.FullFault.TheVariants.{CubeLimit, TooBig, Memory}
 
--- the step of the table of a signal need not be refused: its on-list is not too long, if it must be
--- made, and no function of the signal of a table is too big
+-- the step of the table of a signal need not be refused: its on-list, if it must be made, is not
+-- too long, and no function of the signal of a table is too big
 pub record Passes (limit : ℕ) (circuit : Circuit) (name : List ℕ) : Type 0 where
   pub short : is_refused circuit name ≡ false
   pub within : AreWithin limit circuit
@@ -61,14 +61,14 @@ IsFaultAlong limit circuit (name ∷ names) fault =
     ⊎ (Passes limit circuit name
     × IsFaultAlong limit (with_minimum is_dont_care circuit name) names fault)
 
--- want of memory may come at any time
+-- running out of memory needs no cause
 abbrev pub IsFullFault : ℕ → Circuit → List (List ℕ) → FullFault → Type 0
 IsFullFault limit circuit names (CubeLimit name) = IsFaultAlong limit circuit names (CubeLimit name)
 IsFullFault limit circuit names (TooBig name) = IsFaultAlong limit circuit names (TooBig name)
 IsFullFault limit circuit names Memory = Unit {0}
 
--- what full simplification answers: the circuit fully simplified, if all steps passed, or the fault
--- of the first step that has one
+-- the result of full simplification: the circuit fully simplified, if all steps passed, or the
+-- fault of the first step that has one
 abbrev pub HasFullySimplified : ℕ → Circuit → Result Circuit FullFault → Type 0
 HasFullySimplified limit old (Ok new) =
     PassAlong limit old (order_of old.tables) × (new ≡ fully_simplified old)
@@ -115,7 +115,8 @@ pub record AreTurned (limit : ℕ) (circuit : Circuit) (names : List (List ℕ))
   pub passed : PassAlong limit circuit names
   pub made : new ≡ fold (with_minimum is_dont_care) circuit names
 
--- what is left of an order leads where the whole order leads, and fails where that fails
+-- the rest of an order ends with the circuit with which the whole order ends, and fails only if
+-- that fails
 pub record IsUnderway (limit later : ℕ) (names left : List (List ℕ)) (before now : Circuit) : Type 0
   where
     pub same : later ≡ limit

@@ -1,6 +1,6 @@
 //! Laws of don't-cares and of full simplification, each the contract of a call that does nothing.
 //!
-//! They say what a don't-care is by the leaves, and what a step and the whole of full
+//! They state what a don't-care is by the leaves, and what a step and the whole of full
 //! simplification keep.
 
 ghost use Rattle.std.specs.Prelude.{◌≡◌, ◌↔◌, ℕ, Bool, true, false, List, map};
@@ -30,9 +30,9 @@ pub fn a_turn_keeps()
         → IsKept circuit (with_minimum is_dont_care circuit name) }
 {}
 
-/// After the steps of all tables the circuit is sound, everything but its tables stayed, and it
-/// behaves the same to whoever drives and watches it; so it refines the original circuit, over all
-/// runs.
+/// After the steps of all tables the circuit is sound, everything but its tables is unchanged, and
+/// it behaves the same to whoever drives and watches it; so it refines the original circuit, over
+/// all runs.
 pub fn simplifying_fully_keeps()
     ensures kept { (circuit : Circuit) → IsSound circuit
         → IsKept circuit (fully_simplified circuit) }

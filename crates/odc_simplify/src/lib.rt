@@ -7,10 +7,11 @@
 //! them, one after the other; `laws` says that it is sound and the same to whoever watches it.
 //! `full_simplify` makes exactly that circuit (`specs/Turns.antt`), or returns the fault of the
 //! first step that has one: a list that is too long, or a function made in that step that is too
-//! big (`specs/Tested.antt`), and always if the function of a table's signal is. Within, an oracle
-//! answers `cover_min` about a table from functions of leaves: where its signal must be 1, where it
-//! must be 0, and those of its inputs (`specs/Seen.antt`). It refuses exactly if a function that a
-//! test builds is too big (`specs/Products.antt`).
+//! big (`specs/Tested.antt`), and never a circuit if the function of a table's signal is. Inside,
+//! an oracle answers the tests of `cover_min` on a table by functions of leaves: where its signal
+//! must be 1, where it must be 0, and those of its inputs (`specs/Seen.antt`). It refuses a test
+//! only if a function that the test builds is too big (`specs/Products.antt`), and never answers
+//! one then.
 #![tactic(auto)]
 
 mod fault;

@@ -3,8 +3,8 @@
 //! Source: R. E. Bryant, "Graph-Based Algorithms for Boolean Function Manipulation", IEEE
 //! Transactions on Computers C-35 (1986). A test multiplies a function by the literals of a row,
 //! removes other rows from it, and asks whether it is false everywhere. The object keeps its
-//! numbers, so it can be asked again. Callers rely on `minimum_rows`, and on `Refused` exactly if a
-//! function that a test builds is above the limit.
+//! numbers, so it can be asked again. Callers rely on `minimum_rows`, and on `Refused` if a
+//! function that a test builds is above the limit, unless memory runs out, and only then.
 
 ghost use Rattle.std.specs.Prelude.{◌≡◌, length, Err, IfOk, OnOk};
 ghost use Rattle.cover_min.specs.Minimum.{minimum_rows};
@@ -99,8 +99,8 @@ impl<R: Row, F: Functions> Oracle<R> for FunctionOracle<'_, '_, F> {
 }
 
 /// The minimum of a cover whose columns are the inputs of the literals, where a point of the inputs
-/// is free if neither of two functions of leaves is seen there. `Refused` exactly if a function
-/// that a test builds is too big.
+/// is free if neither of two functions of leaves is seen there. `Refused` only if a function that a
+/// test builds is too big, and no minimum then.
 pub(crate) fn minimise<R: Row, F: Functions>(
     alloc: Global,
     functions: &mut F,

@@ -2,9 +2,9 @@
 //!
 //! Source: De Micheli, "Synthesis and Optimization of Digital Circuits", chapter 7 (rows as
 //! products of literals). A product takes the literals of a row in the order of columns; rows are
-//! taken out of a function one after the other. `meets` and `has_own` ask whether the function that
-//! is left is zero. Callers rely on the exact answer, and on a refusal exactly if one of the
-//! functions in between is above the limit (`specs/Products.antt`); earlier numbers stay.
+//! removed from a function one after the other. `meets` and `has_own` ask whether the function that
+//! remains is zero. Callers rely on the exact answer, on a refusal only if one of the functions
+//! built is above the limit (`specs/Products.antt`), and on no answer then; earlier numbers stay.
 
 ghost use Rattle.std.specs.Prelude.{◌≡◌, ℕ, true, length, map, Err, IfOk, OnOk};
 ghost use Rattle.std.specs.List.{AllByRecursion};

@@ -2,7 +2,7 @@
 //! don't-cares.
 //!
 //! Source: the SIS report (UCB/ERL M92/41), `full_simplify`. The order is that of the network at
-//! the start; the don't-cares of a table are those of the network at its turn. Callers rely on the
+//! the start; the don't-cares of a table are those of the network at its step. Callers rely on the
 //! result to refine the network, and on bounds and the limit to stay.
 
 ghost use Rattle.std.specs.Prelude.{◌≡◌, ℕ, true, List, IfOk, IfErr, OnOk};
@@ -48,9 +48,10 @@ fn minimize_along<R: Row, F: Functions>(
 /// A new network, fully simplified; the given one stays. Each table in topological order becomes
 /// minimal under its don't-cares, which are those of the network at that time. `CubeLimit` has the
 /// name of the first table, in that order, of phase 0 whose list of the rows where it is 1 then has
-/// more than `MAX_ROWS` rows. `TooBig` has the name of the table for which a function was above the
-/// object's limit, as it always is if the function of some table's signal is. The object keeps its
-/// limit. Its numbers may be gone: it is cleared when it is full.
+/// more than `MAX_ROWS` rows. `TooBig` has the name of the table in whose step a function was above
+/// the object's limit; no network is returned if the function of a table's signal is above it at
+/// any step. The object keeps its limit. Its numbers may be invalid afterwards: it is cleared when
+/// it is full.
 pub fn full_simplify<R: Row, F: Functions>(
     alloc: Global,
     network: &Network<R>,

@@ -4,7 +4,7 @@
 //! Source: De Micheli, "Synthesis and Optimization of Digital Circuits", chapter 8 (observability
 //! don't-care conditions). A point must be 1 where the output is 1 and observable, 0 where it is 0
 //! and observable, and is free otherwise. Callers rely on `minimum_rows` for exactly these
-//! don't-cares, and on `Refused` only if a function on the way is above the limit.
+//! don't-cares, and on `Refused` only if one of the functions built is above the limit.
 
 ghost use Rattle.std.specs.Prelude.{◌≡◌, ◌⊎◌, length, map, Err, IfOk};
 ghost use Rattle.std.specs.List.{AllByRecursion};

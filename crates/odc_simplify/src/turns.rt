@@ -119,7 +119,7 @@ fn least_by<R: Row, F: Functions>(
     }
 }
 
-// Clears the object if it asks for it, and the numbers kept of it.
+// Clears the object if it is full, and with it the kept numbers.
 fn make_room<F: Functions>(functions: &mut F, kept: &mut KeptFunctions)
     ensures limit { F.limit functions.new ≡ F.limit functions.old }
     ensures serves { (circuit : Circuit)
@@ -251,7 +251,7 @@ fn tell<R: Row>(
 }
 
 /// Replaces the table of a name, which a table drives, by its minimum under its don't-cares. An
-/// error changes nothing of the network, which no clause says; the limit of the object stays.
+/// error changes nothing in the network, which no clause says; the limit of the object stays.
 pub(crate) fn minimize<R: Row, F: Functions>(
     alloc: Global,
     network: &mut Network<R>,

@@ -21,7 +21,7 @@ some c = ap (λ (known : Option ℕ). unwrap_or known 0) (c.in-Some.ensures.valu
 same : (c : In-Some) → c.args.divisor ≡ c.in-Some._known.now
 same c = divisor_same c.args.divisor c.in-Some._known.now (lookup_key_passes (divisor_eq c.args.divisor) c.values.result.now.entries c.in-Some._known.now (sym c.in-Some.ensures.key))
 
--- where the divisor stands
+-- the entry of the divisor
 entry : (c : In-Some) → slice_get c.args.totals.now c.in-Some.index ≡ Some (c.args.divisor, c.in-Some.before.now)
 entry c =
     ap (λ (entries : List (Divisor × ℕ)). slice_get entries c.in-Some.index) (sym c.values.ensures)
