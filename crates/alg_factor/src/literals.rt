@@ -2,35 +2,12 @@
 //! it is below 2^64, so that no sum overflows.
 
 ghost use Rattle.std.specs.Prelude.{◌≡◌, ℕ, ◌+◌, ◌^◌, ◌<◌, ◌≤◌, Bool, Option, List, map};
-ghost use Rattle.cube_cover.specs.Literals.{literal_number, row_literals, cover_literals};
+ghost use Rattle.cube_cover.specs.Literals.{cover_literals};
 ghost use Rattle.alg_factor.specs.Forms.{form_literals};
 ghost use Rattle.alg_factor.specs.Shapes.{shape};
 
 use crate::form::Tree;
 use cube_cover::Row;
-
-// 1 for a literal, 0 for a dash.
-fn literal_count(literal: Option<bool>) -> u64
-    ensures { result ≡ literal_number literal }
-{
-    match literal {
-        None => 0,
-        Some(_) => 1,
-    }
-}
-
-// The number of a row's literals.
-#[tactic(auto, unfolding(cube_cover::specs::Literals::row_literals))]
-fn row_count<R: Row>(row: &R) -> u64
-    requires { row_literals (R.literals row.now) < 2 ^ 64 }
-    ensures { result ≡ row_literals (R.literals row.now) }
-{
-    let mut count = 0;
-    for place in 0..row.width() {
-        count += literal_count(row.at(place));
-    }
-    count
-}
 
 // The number of literals of rows.
 #[tactic(auto, unfolding(cube_cover::specs::Literals::cover_literals))]
@@ -40,7 +17,7 @@ fn rows_count<R: Row>(rows: &[R]) -> u64
 {
     let mut count = 0;
     for row in rows {
-        count += row_count(row);
+        count += row.literal_count() as u64;
     }
     count
 }

@@ -13,7 +13,7 @@ ghost use Rattle.cube_cover.specs.Literals.{some_literal, all_dashes, some_dashe
 ghost use Rattle.cover_ops.specs.Shannon.{list_rows};
 ghost use Rattle.cover_ops.specs.Halves.{constant_list, list_from, marked_rows, IsJoined};
 
-use cube_cover::{Cover, Row, equal_rows, literal_agrees};
+use cube_cover::{Cover, Row, literal_agrees};
 use std::alloc::{AllocError, AllocFailed, Global};
 
 /// Why there is no list.
@@ -71,24 +71,15 @@ fn constant_rows<R: Row>(
 }
 
 // Whether a row has no literal from a column on.
-#[tactic(auto, unfolding(cube_cover::specs::Literals::all_dashes))]
 fn is_free<R: Row>(row: &R, place: usize) -> bool
-    requires { place ≤ length (R.literals row.now) }
     ensures { result ≡ all_dashes (drop place (R.literals row.now)) }
 {
-    for next in place..row.width() {
-        if row.at(next).is_some() {
-            return false;
-        }
-    }
-    true
+    row.next_literal(place).is_none()
 }
 
 // Whether some row has no literal from a column on.
-#[tactic(auto, using(cube_cover::proofs::Points::width_read), unfolding(cube_cover::specs::Literals::some_dashes))]
-fn some_free<R: Row>(rows: &[&R], width: usize, place: usize) -> bool
-    requires widths { HasWidth width (map (λ row. R.literals row.now) rows.now) }
-    requires place { place ≤ width }
+#[tactic(auto, unfolding(cube_cover::specs::Literals::some_dashes))]
+fn some_free<R: Row>(rows: &[&R], place: usize) -> bool
     ensures { result ≡ some_dashes (map (drop place) (map (λ row. R.literals row.now) rows.now)) }
 {
     for row in rows {
@@ -147,7 +138,7 @@ fn equal_lists<R: Row>(low: &[R], high: &[R], width: usize) -> bool
         return false;
     }
     for (i, row) in low.iter().enumerate() {
-        if !equal_rows(row, &high[i]) {
+        if !row.is_equal(&high[i]) {
             return false;
         }
     }
@@ -233,7 +224,7 @@ fn rows_from<R: Row>(
     if left == 0 {
         return constant_rows(alloc, width, phase, limit);
     }
-    if some_free(rows, width, place) {
+    if some_free(rows, place) {
         return constant_rows(alloc, width, phase, limit);
     }
     if !any_literal(rows, width, place) {

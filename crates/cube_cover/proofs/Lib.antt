@@ -1,4 +1,5 @@
 pub mod Points
+pub mod Dashes
 pub mod Products
 pub mod Numbered
 pub mod Splits

@@ -1,6 +1,8 @@
 -- Rows that intersect, contain one another, or have a product, column by column.
 use Rattle.std.proofs.Common.{◌≡◌, suc, Bool, true, false, ◌&&◌, Option, Some, None, List, [], ◌∷◌, length, refl, sym, ap, ◌∙◌, subst, arith, IsTrue, ◌↔◌}
 use Rattle.std.proofs.Math.Bool.{and-false}
+use Rattle.std.specs.Bool.{beq}
+use Rattle.std.specs.Option.{option_eq}
 use Rattle.std.proofs.lemmas.Bool.{and_from}
 use Rattle.sis_base.specs.Rows.{agrees, matches}
 use Rattle.cube_cover.specs.Covers.{Intersects, ContainsRow, IsProduct, product_of}
@@ -165,6 +167,16 @@ same_literals (l ∷ ls) (m ∷ ms) e h k =
     let p : l ≡ m = same_place l m (and_left _ _ h) (and_left _ _ k) in
     let q : ls ≡ ms = same_literals ls ms (omega arith) (and_right (literal_contains l m) (row_contains ls ms) h) (and_right (literal_contains m l) (row_contains ms ls) k) in
     cc
+
+-- the test whether two literals are equal
+pub literal_decides : (l m : Option Bool) → (option_eq beq l m ≡ true → l ≡ m) × (l ≡ m → option_eq beq l m ≡ true)
+literal_decides None None = (λ _. refl, λ _. refl)
+literal_decides None (Some x) = (λ h. cc, λ e. cc)
+literal_decides (Some x) None = (λ h. cc, λ e. cc)
+literal_decides (Some true) (Some true) = (λ _. refl, λ _. refl)
+literal_decides (Some true) (Some false) = (λ h. cc, λ e. cc)
+literal_decides (Some false) (Some true) = (λ h. cc, λ e. cc)
+literal_decides (Some false) (Some false) = (λ _. refl, λ _. refl)
 
 pub same_from_contains : (a b : List (Option Bool)) → length a ≡ length b → ContainsRow a b → ContainsRow b a → a ≡ b
 same_from_contains a b e h k = same_literals a b e (literals_from_contains a b e h) (literals_from_contains b a (sym e) k)

@@ -27,12 +27,12 @@ pub struct SplitChoice {
 // The columns of a row's literals, in order; columns past 32 bits are left out.
 fn literals_of<R: Row>(alloc: Global, row: &R) -> Result<Vec<u32>, AllocError> {
     let mut literals = Vec::new(alloc);
-    for place in 0..row.width() {
-        if row.at(place).is_some() {
-            if let Ok(number) = u32::try_from(place) {
-                literals.push(number)?;
-            }
+    let mut from = 0;
+    while let Some(place) = row.next_literal(from) {
+        if let Ok(number) = u32::try_from(place) {
+            literals.push(number)?;
         }
+        from = place + 1;
     }
     Ok(literals)
 }

@@ -22,4 +22,4 @@ mod volume;
 pub use cover::{Cover, is_literal, literal_agrees, rows_copied};
 pub use picks::contains_row;
 pub use plain::PlainRow;
-pub use row::{Row, dash_of, equal_rows, first_dash, row_with};
+pub use row::{Row, dash_of, first_dash, row_with};

@@ -1,4 +1,4 @@
-//! Rows as vectors of literals, one for each column.
+//! Rows as lists of literals, one for each column.
 //!
 //! `PlainRow` is the simple representation of a row (De Micheli, "Synthesis and Optimization of
 //! Digital Circuits", chapter 7: operations on cubes, column by column). Contracts see it as its
@@ -10,13 +10,17 @@ ghost use Rattle.cube_cover.specs.Covers.{Intersects, ContainsRow, IsProduct, pr
 ghost use Rattle.cube_cover.specs.Literals.{literals_intersect, rows_intersect, literal_contains, row_contains, literal_product};
 
 use crate::row::Row;
+use sis_base::{Copied, Short};
 use std::alloc::{AllocError, Global};
 use std::marker::Model;
 
-/// A row stored as a vector of literals, `None` for a dash; contracts see their list.
+// The literals of a row, `None` for a dash; up to 16 of them take no memory of their own.
+type Literals = Short<Option<bool>, 16>;
+
+/// A row stored as its literals, `None` for a dash; contracts see their list.
 #[derive(Drop)]
 pub struct PlainRow {
-    literals: Vec<Option<bool>>,
+    literals: Literals,
 }
 
 impl Model for PlainRow {
@@ -24,7 +28,7 @@ impl Model for PlainRow {
 
     ghost Value = { List (Option Bool) };
 
-    ghost view = { λ row. row.literals.items };
+    ghost view = { λ row. row.literals };
 }
 
 impl PlainRow {
@@ -32,11 +36,9 @@ impl PlainRow {
     pub fn from_literals(alloc: Global, literals: &[Option<bool>]) -> Result<PlainRow, AllocError>
         ensures { IfOk result (λ row. row ≡ literals.now) }
     {
-        let mut copied = Vec::with_capacity(alloc, literals.len())?;
-        for literal in literals {
-            copied.push(*literal)?;
-        }
-        Ok(PlainRow { literals: copied })
+        Ok(PlainRow {
+            literals: Short::from_slice(alloc, literals)?,
+        })
     }
 }
 
@@ -44,7 +46,7 @@ impl Row for PlainRow {
     ghost literals = { λ row. row };
 
     fn dashes(alloc: Global, width: usize) -> Result<PlainRow, AllocError> {
-        let mut literals = Vec::with_capacity(alloc, width)?;
+        let mut literals = Literals::with_capacity(alloc, width)?;
         for _filled in 0..width {
             literals.push(None)?;
         }
@@ -52,7 +54,9 @@ impl Row for PlainRow {
     }
 
     fn copy(&self, alloc: Global) -> Result<PlainRow, AllocError> {
-        PlainRow::from_literals(alloc, self.literals.as_slice())
+        Ok(PlainRow {
+            literals: self.literals.copy(alloc)?,
+        })
     }
 
     fn width(&self) -> usize {
@@ -60,11 +64,11 @@ impl Row for PlainRow {
     }
 
     fn at(&self, place: usize) -> Option<bool> {
-        self.literals[place]
+        self.literals.as_slice()[place]
     }
 
     fn set(&mut self, place: usize, literal: Option<bool>) {
-        self.literals[place] = literal;
+        self.literals.set(place, literal);
     }
 
     #[tactic(auto, using(crate::proofs::Products::intersects_answer))]
@@ -85,6 +89,10 @@ impl Row for PlainRow {
             other.literals.as_slice(),
         )?;
         Ok(PlainRow { literals })
+    }
+
+    fn is_equal(&self, other: &PlainRow) -> bool {
+        self.literals.as_slice() == other.literals.as_slice()
     }
 }
 
@@ -153,11 +161,11 @@ fn product_literals(
     alloc: Global,
     literals: &[Option<bool>],
     others: &[Option<bool>],
-) -> Result<Vec<Option<bool>>, AllocError>
+) -> Result<Literals, AllocError>
     requires { length literals.now ≡ length others.now }
-    ensures { IfOk result (λ made. made.items ≡ product_of literals.now others.now) }
+    ensures { IfOk result (λ made. made ≡ product_of literals.now others.now) }
 {
-    let mut made = Vec::with_capacity(alloc, literals.len())?;
+    let mut made = Literals::with_capacity(alloc, literals.len())?;
     for (i, literal) in literals.iter().enumerate() {
         made.push(product_literal(*literal, others[i]))?;
     }

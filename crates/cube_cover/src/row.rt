@@ -1,8 +1,8 @@
 //! What every representation of a row owes, and what is found by that alone.
 
-ghost use Rattle.std.specs.Prelude.{◌≡◌, ℕ, ◌<◌, Bool, true, ◌↔◌, Option, Some, None, List, length, replicate, slice_index_or, slice_set, MatchOption, IfOk, IsTrue};
+ghost use Rattle.std.specs.Prelude.{◌≡◌, ℕ, ◌+◌, ◌^◌, ◌<◌, ◌≤◌, Bool, true, ◌↔◌, Option, Some, None, List, length, drop, replicate, slice_index_or, slice_set, IfSome, MatchOption, IfOk, IsTrue};
 ghost use Rattle.cube_cover.specs.Covers.{Intersects, ContainsRow, IsProduct, product_of};
-ghost use Rattle.cube_cover.specs.Literals.{no_dash};
+ghost use Rattle.cube_cover.specs.Literals.{literal_number, row_literals, not_dash, no_dash, all_dashes};
 
 use std::alloc::{AllocError, Global};
 
@@ -51,17 +51,57 @@ pub trait Row: Drop {
             (literals other.now)) }
         ensures points { IfOk result (λ row. IsProduct (literals self.now) (literals other.now)
             (literals row)) };
+
+    /// Whether two rows have the same literals.
+    fn is_equal(&self, other: &Self) -> bool
+        requires { length (literals self.now) ≡ length (literals other.now) }
+        ensures { IsTrue result ↔ (literals self.now ≡ literals other.now) }
+    {
+        if !self.contains(other) {
+            return false;
+        }
+        other.contains(self)
+    }
+
+    /// The first column at or after `from` that has a literal, if there is one.
+    fn next_literal(&self, from: usize) -> Option<usize>
+        ensures none { result ≡ None → all_dashes (drop from (literals self.now)) ≡ true }
+        ensures found { IfSome result (λ column. (from ≤ column)
+            × (column < length (literals self.now))
+            × (not_dash (slice_index_or (literals self.now) column None) ≡ true)) }
+        ensures fits { IfSome result (λ column. column + 1 < 2 ^ 64) }
+        ensures before { IfSome result (λ column. (place : ℕ) → from ≤ place → place < column
+            → slice_index_or (literals self.now) place None ≡ None) }
+    {
+        for column in from..self.width() {
+            if self.at(column).is_some() {
+                return Some(column);
+            }
+        }
+        None
+    }
+
+    /// The number of literals.
+    #[tactic(auto, unfolding(crate::specs::Literals::row_literals))]
+    fn literal_count(&self) -> usize
+        ensures { result ≡ row_literals (literals self.now) }
+    {
+        let mut count = 0;
+        for column in 0..self.width() {
+            count += literals_at(self.at(column));
+        }
+        count
+    }
 }
 
-/// Whether two rows have the same literals.
-pub fn equal_rows<R: Row>(row: &R, other: &R) -> bool
-    requires { length (R.literals row.now) ≡ length (R.literals other.now) }
-    ensures { IsTrue result ↔ (R.literals row.now ≡ R.literals other.now) }
+// 1 for a literal, 0 for a dash.
+fn literals_at(place: Option<bool>) -> usize
+    ensures { result ≡ literal_number place }
 {
-    if !row.contains(other) {
-        return false;
+    match place {
+        None => 0,
+        Some(_literal) => 1,
     }
-    other.contains(row)
 }
 
 /// The first dash of a row, if it has one.

@@ -4,33 +4,10 @@
 //! vertex counts). Promised: if the answer is yes, the shares of the rows add up to less than the
 //! whole, and so some point is in none of them.
 
-ghost use Rattle.std.specs.Prelude.{◌≡◌, ℕ, ◌-◌, ◌^◌, ◌<◌, ◌≤◌, Bool, Option, None, List, map, slice_index_or, IsTrue};
-ghost use Rattle.cube_cover.specs.Literals.{literal_number, row_literals};
+ghost use Rattle.std.specs.Prelude.{◌≡◌, ℕ, ◌-◌, ◌^◌, ◌<◌, ◌≤◌, Bool, Option, List, map, IsTrue};
 ghost use Rattle.cube_cover.specs.Volumes.{cover_shares};
 
 use crate::row::Row;
-
-// 1 for a literal, 0 for a dash.
-fn literals_at(place: Option<bool>) -> usize
-    ensures { result ≡ literal_number place }
-{
-    match place {
-        None => 0,
-        Some(_literal) => 1,
-    }
-}
-
-// The number of a row's literals.
-#[tactic(auto, unfolding(crate::specs::Literals::row_literals))]
-fn literals_in<R: Row>(row: &R) -> usize
-    ensures { result ≡ row_literals (R.literals row.now) }
-{
-    let mut count = 0;
-    for place in 0..row.width() {
-        count += literals_at(row.at(place));
-    }
-    count
-}
 
 // The share of a row with this number of literals, where all points have 2^63; at least 1.
 fn share_of(literals: usize) -> u64
@@ -50,7 +27,7 @@ pub fn is_too_small<R: Row>(rows: &[R]) -> bool
 {
     let mut total: u64 = 0;
     for row in rows {
-        total += share_of(literals_in(row));
+        total += share_of(row.literal_count());
         if total >= 1 << 63 {
             return false;
         }

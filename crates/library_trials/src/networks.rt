@@ -183,7 +183,7 @@ fn put_told(
 fn changed(alloc: Global, network: &Network<PlainRow>, command: &str) -> Option<Network<PlainRow>> {
     match command {
         "sweep" => sweep(alloc, network).ok().map(|(made, _)| made),
-        "eliminate" => eliminate(alloc, network, -1, 32767).ok(),
+        "eliminate" => eliminate(alloc, network, -1, 1_000_000).ok(),
         "collapse" => collapse(alloc, network).ok(),
         "decomp" => decompose(alloc, network, Rule::Shared).ok(),
         "tech_decomp" => decompose(alloc, network, Rule::Gates(2, 2)).ok(),

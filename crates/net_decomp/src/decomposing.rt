@@ -83,7 +83,7 @@ fn nodes_of<R: Row>(network: &Network<R>) -> u128
 /// done, always the earliest one that is not; parts become tables, which are last, under the least
 /// free names. `NodeLimit` only if a step has parts and with them there would be more than
 /// `MAX_NODES` tables and latches, those of the don't-care part included. `Memory` also if a table
-/// in its normal form would have 2^30 inputs or 2^29 rows; no clause says so.
+/// in its normal form would have 2^30 inputs or 2^33 rows; no clause says so.
 pub fn decompose<R: Row>(
     alloc: Global,
     network: &Network<R>,

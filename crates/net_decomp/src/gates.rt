@@ -10,28 +10,19 @@ ghost use Rattle.cube_cover.specs.Literals.{row_literals, all_dashes, some_dashe
 ghost use Rattle.net_decomp.specs.Rules.{is_long, is_gate};
 
 use cube_cover::Row;
-use net_core::row_literals;
-
-// The number of literals of a row.
-#[tactic(auto, using(crate::proofs::Counted::literals_same))]
-fn literal_count<R: Row>(row: &R) -> usize
-    ensures { result ≡ row_literals (R.literals row.now) }
-{
-    row_literals(row)
-}
 
 // Whether a row has at most so many literals.
 fn is_within<R: Row>(row: &R, most: usize) -> bool
     ensures { result ≡ leb (row_literals (R.literals row.now)) most }
 {
-    literal_count(row) <= most
+    row.literal_count() <= most
 }
 
 // Whether a row has one literal.
 fn is_single<R: Row>(row: &R) -> bool
     ensures { result ≡ eqb (row_literals (R.literals row.now)) 1 }
 {
-    literal_count(row) == 1
+    row.literal_count() == 1
 }
 
 // Whether a row has no literal.
@@ -39,14 +30,14 @@ fn is_single<R: Row>(row: &R) -> bool
 fn is_empty<R: Row>(row: &R) -> bool
     ensures { result ≡ all_dashes (R.literals row.now) }
 {
-    literal_count(row) == 0
+    row.literal_count() == 0
 }
 
 /// Whether a row has two literals or more.
 pub(crate) fn is_long_row<R: Row>(row: &R) -> bool
     ensures { result ≡ is_long (R.literals row.now) }
 {
-    1 < literal_count(row)
+    1 < row.literal_count()
 }
 
 // Whether each row has at most so many literals.

@@ -6,7 +6,7 @@
 //! leaves the list as it was and gives the item back. `Name`, the bytes of a word, keeps 22 of them
 //! in itself.
 
-ghost use Rattle.std.specs.Prelude.{◌≡◌, ◌==◌, ◌++◌, ◌∷◌, [], length, IfOk, OnOk, OnErr, IfErr};
+ghost use Rattle.std.specs.Prelude.{◌≡◌, ◌==◌, ◌<◌, ◌++◌, ◌∷◌, [], length, slice_set, IfOk, OnOk, OnErr, IfErr};
 
 use crate::sequence::Copied;
 use smallvec::SmallVec;
@@ -86,6 +86,16 @@ impl<T: MadeWith<Global> + Copy + Drop, const N: usize> Short<T, N> {
         }
     }
 
+    /// The list without items, with room for so many.
+    #[inline]
+    pub fn with_capacity(alloc: Global, count: usize) -> Result<Self, AllocError>
+        ensures { IfOk result (λ made. made ≡ []) }
+    {
+        Ok(Short {
+            items: SmallVec::with_capacity(alloc, count)?,
+        })
+    }
+
     /// The list of a slice's items.
     #[inline]
     pub fn from_slice(alloc: Global, items: &[T]) -> Result<Self, AllocError>
@@ -104,6 +114,15 @@ impl<T: MadeWith<Global> + Copy + Drop, const N: usize> Short<T, N> {
         ensures given_back { IfErr result (λ failed. failed.value ≡ item) }
     {
         self.items.push(item)
+    }
+
+    /// Replaces the item at an index, counted from 0; the other items stay.
+    #[inline]
+    pub fn set(&mut self, index: usize, item: T)
+        requires { index < length self.old }
+        ensures { self.new ≡ slice_set self.old index item }
+    {
+        self.items.as_mut_slice()[index] = item;
     }
 }
 

@@ -1,6 +1,6 @@
 use Rattle.std.proofs.Common.{sym}
 use Rattle.cube_cover.proofs.Products.{same_from_contains, contains_same}
-use Rattle.cube_cover.proofs.row.equal_rows.Goals as goal
+use Rattle.cube_cover.proofs.row.Row.is_equal.Goals as goal
 
 pub returns : goal.returns
 returns g c = (
