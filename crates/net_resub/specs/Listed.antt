@@ -10,6 +10,7 @@ use Rattle.circuit_model.specs.Names.{has}
 use Rattle.circuit_model.specs.declared.circuit.Table.{Table}
 use Rattle.net_readers.specs.Fanouts.{is_in}
 use Rattle.cover_names.specs.Literals.{NamedCover}
+use Rattle.net_candidates.specs.Spots.{places_in}
 use Rattle.cover_names.specs.Cubes.{is_over}
 use Rattle.net_work.specs.Placed.{table_at}
 use Rattle.net_resub.specs.Resubbed.{row_cubes}
@@ -18,11 +19,6 @@ use Rattle.net_resub.specs.declared.listed.DivisorLists.{DivisorLists}
 -- each list of names that includes those of all literals of a cover includes a given one
 abbrev pub IsNeeded : NamedCover → List ℕ → Type 0
 IsNeeded cover name = (names : List (List ℕ)) → is_over names cover ≡ true → has names name ≡ true
-
--- the indices of a list, if there is one
-abbrev pub places_in : {Y : Type 0} → Option (Vec ℕ Y) → List ℕ
-places_in None = []
-places_in (Some list) = list.items
 
 abbrev pub in_list : {Y : Type 0} → Option (Vec ℕ Y) → ℕ → Bool
 in_list list at = is_in (places_in list) at

@@ -17,7 +17,8 @@ ghost use Rattle.net_readers.specs.Fanouts.{is_in};
 ghost use Rattle.cover_names.specs.Cubes.{is_over};
 ghost use Rattle.net_core.specs.Places.{written_of};
 ghost use Rattle.net_resub.specs.Resubbed.{row_cubes};
-ghost use Rattle.net_resub.specs.Listed.{IsNeeded, places_in, in_list, is_under, HasPut, HasPutUnder, AreJoined, AreListed};
+ghost use Rattle.net_candidates.specs.Spots.{places_in};
+ghost use Rattle.net_resub.specs.Listed.{IsNeeded, in_list, is_under, HasPut, HasPutUnder, AreJoined, AreListed};
 
 use crate::pairs::item_at;
 use circuit_model::Name;

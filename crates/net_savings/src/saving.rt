@@ -22,20 +22,13 @@ ghost use Rattle.net_work.specs.Placed.{standing, circuit_of, table_at};
 ghost use Rattle.net_savings.specs.Saving.{literals_in, IsLoss, AreLosses, IsSaved};
 
 use alg_tables::{cover_table, divided_table};
-use circuit_model::Name;
+use circuit_model::{Name, has_name};
 use cover_names::{Cube, Literal};
 use cube_cover::Row;
 use net_core::CoverTable;
 use net_work::{WorkingNetwork, literal_count};
 use sis_base::limits::MAX_INPUTS;
 use std::alloc::{AllocError, Global};
-
-// Whether a name is among names.
-fn has_name(names: &[Name], name: &Name) -> bool
-    ensures { result ≡ has names.now name.now }
-{
-    names.iter().any(|other| *name == *other)
-}
 
 // The name of the first literal of a cover.
 fn first_name(cover: &[Cube]) -> Option<&Name>
