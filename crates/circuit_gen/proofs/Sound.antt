@@ -5,6 +5,7 @@ use Rattle.std.proofs.lemmas.Bool.{cases_eq}
 use Rattle.std.proofs.lemmas.List.FromFn.{length-map-range_with_len}
 use Rattle.std.proofs.lemmas.Option.{none-some}
 use Rattle.sis_base.specs.Written.{is_word}
+use Rattle.sis_base.specs.declared.limits.TheConstants.{MAX_NODES}
 use Rattle.circuit_model.specs.Names.{has, all_different}
 use Rattle.circuit_model.specs.Counts.{IsSmallTable, IsWithinLimits}
 use Rattle.circuit_model.specs.Values.{driver}
@@ -167,7 +168,7 @@ module _ (seed tables : ℕ) (few : tables < 2 ^ 32) where
     dont_care_shaped = tt;
   }
 
-pub within_limits : (seed tables : ℕ) → tables + 8 ≤ 65535 → IsWithinLimits (generated seed tables)
+pub within_limits : (seed tables : ℕ) → tables + 8 ≤ MAX_NODES → IsWithinLimits (generated seed tables)
 unfolding generated
 within_limits seed tables few = record {
   nodes = omega (arith, length-map-range_with_len (table_at seed) 0 tables);

@@ -1,11 +1,12 @@
 -- Sums and counts over rows and tables, as far as a loop has come, and how large they can be.
-use Rattle.std.proofs.Common.{◌≡◌, ℕ, ◌+◌, ◌*◌, ◌^◌, ◌<◌, ◌≤◌, zero, suc, Bool, true, false, ◌||◌, cond, if◌then◌else◌, Option, Some, None, List, [], ◌∷◌, ◌++◌, length, get_or, take, map, bytes_eq, refl, sym, ap, ◌∙◌, subst, arith}
+use Rattle.std.proofs.Common.{◌≡◌, ℕ, ◌+◌, ◌*◌, ◌^◌, ◌<◌, ◌≤◌, zero, suc, Bool, true, false, ◌||◌, cond, Option, Some, None, List, [], ◌∷◌, ◌++◌, length, get_or, take, map, bytes_eq, refl, sym, ap, ◌∙◌, subst, arith}
 use Rattle.std.specs.List.{sum_by, find, filter, AllByRecursion}
-use Rattle.std.proofs.lemmas.List.{map_more, length-append, length-map, map-append}
-use Rattle.std.proofs.lemmas.List.Sums.{sum_by_push, sum_by-append, sum_by-cons, count_by-le-length}
+use Rattle.std.proofs.lemmas.List.{length-append, length-map, map-append}
+use Rattle.std.proofs.lemmas.List.Sums.{sum_by-append, sum_by-cons, count_by-le-length}
 use Rattle.std.proofs.lemmas.List.Elements.{filter-append}
 use Rattle.std.proofs.lemmas.Nat.{mul-le}
 use Rattle.std.proofs.lemmas.Option.{same_Some}
+use Rattle.cube_cover.specs.Literals.{row_literals}
 use Rattle.circuit_model.specs.Names.{has}
 use Rattle.circuit_model.specs.Values.{driver}
 use Rattle.circuit_model.specs.Runs.{latch_outputs}
@@ -23,12 +24,23 @@ use Rattle.net_core.specs.Fresh.{used_names, IsNewName}
 use Rattle.net_core.proofs.Lookups.{has-append}
 use Rattle.net_core.proofs.Indexing.{present_more}
 
-pub sum_more : {X Y : Type 0} (f : Y → ℕ) (h : X → Y) (xs : List X) (i : ℕ) (d : X) → i < length xs → sum_by f (map h (take (i + 1) xs)) ≡ sum_by f (map h (take i xs)) + f (h (get_or xs i d))
-sum_more f h xs i d lt = ap (sum_by f) (map_more h xs i d lt) ∙ sum_by_push f (map h (take i xs)) (h (get_or xs i d))
+counted : Tri → ℕ
+counted t = cond {A = ℕ} (is_literal t) 1 0
 
-pub literals_more : (row : List (Option Bool)) (i : ℕ) → i < length row → literals_of_row (characters_of (take (i + 1) row)) ≡ literals_of_row (characters_of (take i row)) + (if is_literal (character_of (get_or row i None)) then 1 else 0)
-unfolding literals_of_row
-literals_more row i lt = sum_more (λ (c : Tri). if is_literal c then 1 else 0) character_of row i None lt
+-- a row has as many literals as its characters
+pub literals_same : (row : List (Option Bool)) → literals_of_row (characters_of row) ≡ row_literals row
+unfolding literals_of_row row_literals counted
+literals_same [] = refl
+literals_same (None ∷ row) = sum_by-cons counted (character_of None) (characters_of row) ∙ ap (λ (n : ℕ). 0 + n) (literals_same row)
+literals_same (Some true ∷ row) = sum_by-cons counted (character_of (Some true)) (characters_of row) ∙ ap (λ (n : ℕ). 1 + n) (literals_same row)
+literals_same (Some false ∷ row) = sum_by-cons counted (character_of (Some false)) (characters_of row) ∙ ap (λ (n : ℕ). 1 + n) (literals_same row)
+
+-- at most one literal a column
+pub literals_few : (row : List (Option Bool)) → row_literals row ≤ length row
+unfolding row_literals
+literals_few [] = omega arith
+literals_few (None ∷ row) = omega (arith, literals_few row)
+literals_few (Some bit ∷ row) = omega (arith, literals_few row)
 
 -- what holds of each table holds of the driver of a signal
 pub driver_has : (P : Table → Type 0) (tables : List Table) (q : List ℕ) (t : Table) → AllByRecursion P tables → driver tables q ≡ Some t → P t
@@ -83,11 +95,11 @@ module _ {R : Type 0} where
   all_present_at P (None ∷ slots) (suc i) x h lt e = all_present_at P slots i x h (omega arith) e
   all_present_at P (Some t ∷ slots) (suc i) x h lt e = all_present_at P slots i x h.1 (omega arith) e
 
-  pub few_rows_of : (e : Entry R) → AllByRecursion IsBounded (present (Some e ∷ [])) → length e.table.cover.rows < 2 ^ 29
+  pub few_rows_of : (e : Entry R) → AllByRecursion IsBounded (present (Some e ∷ [])) → length e.table.cover.rows < 2 ^ 33
   unfolding present named
   few_rows_of e h = omega (arith, h.0.rows, length-map e.table.cover.rows characters_of)
 
-  pub few_rows_named : (q : List ℕ) (t : CoverTable R) → IsBounded (named q t) → length t.cover.rows < 2 ^ 29
+  pub few_rows_named : (q : List ℕ) (t : CoverTable R) → IsBounded (named q t) → length t.cover.rows < 2 ^ 33
   unfolding named
   few_rows_named q t h = omega (arith, h.rows, length-map t.cover.rows characters_of)
 
@@ -102,12 +114,12 @@ rows_bound w (row ∷ rows) h =
     let tail : sum_by literals_of_row rows ≤ length rows * w = rows_bound w rows h.1 in
     omega (arith, sum_by-cons literals_of_row row rows, count_by-le-length is_literal row, h.0, tail)
 
-pub literals_bound : (c : Circuit) (q : List ℕ) (t : Table) → IsSound c → HasBounds c → driver c.tables q ≡ Some t → literals_of_table t ≤ 2 ^ 59
+pub literals_bound : (c : Circuit) (q : List ℕ) (t : Table) → IsSound c → HasBounds c → driver c.tables q ≡ Some t → literals_of_table t ≤ 2 ^ 63
 unfolding literals_of_table
 literals_bound c q t h b e =
     let shaped : IsShaped t = driver_has IsShaped c.tables q t h.shaped e in
     let small : IsBounded t = driver_has IsBounded c.tables q t b.tables e in
-    omega (arith, rows_bound (length t.inputs) t.rows shaped.0, mul-le (length t.rows) (length t.inputs) (2 ^ 29) (2 ^ 30) (omega (arith, small.rows)) (omega (arith, small.inputs)))
+    omega (arith, rows_bound (length t.inputs) t.rows shaped.0, mul-le (length t.rows) (length t.inputs) (2 ^ 33) (2 ^ 30) (omega (arith, small.rows)) (omega (arith, small.inputs)))
 
 -- the fanouts among the tables before and after
 pub readers-append : (xs ys : List Table) (q : List ℕ) → readers_of (xs ++ ys) q ≡ readers_of xs q ++ readers_of ys q

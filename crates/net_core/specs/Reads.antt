@@ -49,9 +49,9 @@ unfoldable pub value_of : List Table → List ℕ → ℤ
 value_of tables name =
     pos (uses_of tables name * own_literals tables name) -ℤ pos (uses_of tables name) -ℤ pos (own_literals tables name)
 
--- fewer than 2^29 rows and fewer than 2^30 inputs, and so fewer than 2^59 literals
+-- fewer than 2^33 rows and fewer than 2^30 inputs, and so fewer than 2^63 literals
 pub record IsBounded (table : Table) : Type 0 where
-  pub rows : length table.rows < 2 ^ 29
+  pub rows : length table.rows < 2 ^ 33
   pub inputs : length table.inputs < 2 ^ 30
 
 -- fewer than 2^29 tables and latches, each table within its bounds, so that all sums are far below

@@ -34,22 +34,17 @@ fn literal_count(place: Option<bool>) -> usize
 }
 
 /// The number of a row's literals.
-#[tactic(auto, using(crate::proofs::Counting::literals_more), unfolding(circuit_model::specs::Counts::literals_of_row))]
 pub fn row_literals<R: Row>(row: &R) -> usize
     ensures literals { result ≡ literals_of_row (characters_of (R.literals row.now)) }
     ensures bound { result ≤ length (R.literals row.now) }
 {
-    let mut count = 0;
-    for place in 0..row.width() {
-        count += literal_count(row.at(place));
-    }
-    count
+    row.literal_count()
 }
 
 // The number of literals of rows.
 fn rows_literals<R: Row>(rows: &[R]) -> u128
-    requires { length rows.now < 2 ^ 29 }
-    ensures bound { result ≤ 2 ^ 93 }
+    requires { length rows.now < 2 ^ 33 }
+    ensures bound { result ≤ 2 ^ 97 }
     ensures literals { result ≡ sum_by literals_of_row
         (map characters_of (map R.literals rows.now)) }
 {
@@ -108,9 +103,9 @@ fn table_uses<R: Row>(table: &CoverTable<R>, name: &Name) -> usize
 // The number of a table's literals.
 #[tactic(auto, unfolding(circuit_model::specs::Counts::literals_of_table, crate::specs::Tables::named))]
 fn table_literals<R: Row>(table: &CoverTable<R>) -> u128
-    requires { length table.now.cover.rows < 2 ^ 29 }
+    requires { length table.now.cover.rows < 2 ^ 33 }
     ensures literals { (output : List ℕ) → result ≡ literals_of_table (named output table.now) }
-    ensures bound { result ≤ 2 ^ 93 }
+    ensures bound { result ≤ 2 ^ 97 }
 {
     rows_literals(table.cover.rows())
 }
@@ -120,7 +115,7 @@ fn table_literals<R: Row>(table: &CoverTable<R>) -> u128
 fn slot_literals<R: Row>(slot: &Option<Entry<R>>) -> u128
     requires { AllByRecursion IsBounded (present (slot.now ∷ [])) }
     ensures literals { result ≡ sum_by literals_of_table (present (slot.now ∷ [])) }
-    ensures bound { result ≤ length (present (slot.now ∷ [])) * 2 ^ 93 }
+    ensures bound { result ≤ length (present (slot.now ∷ [])) * 2 ^ 97 }
 {
     match slot {
         None => 0,
@@ -146,7 +141,7 @@ fn slots_literals<R: Row>(slots: &[Option<Entry<R>>]) -> u128
 fn slot_uses<R: Row>(slot: &Option<Entry<R>>, name: &Name) -> u128
     requires { AllByRecursion IsBounded (present (slot.now ∷ [])) }
     ensures uses { result ≡ sum_by (uses_in name.now) (present (slot.now ∷ [])) }
-    ensures bound { result ≤ length (present (slot.now ∷ [])) * 2 ^ 29 }
+    ensures bound { result ≤ length (present (slot.now ∷ [])) * 2 ^ 33 }
 {
     match slot {
         None => 0,
@@ -160,7 +155,7 @@ fn slots_uses<R: Row>(slots: &[Option<Entry<R>>], name: &Name) -> u128
     requires few { length (present slots.now) < 2 ^ 29 }
     requires rows { AllByRecursion IsBounded (present slots.now) }
     ensures uses { result ≡ uses_of (present slots.now) name.now }
-    ensures bound { result ≤ 2 ^ 58 }
+    ensures bound { result ≤ 2 ^ 62 }
 {
     let mut total: u128 = 0;
     for slot in slots {
@@ -190,8 +185,8 @@ fn push_reader<R: Row>(
 
 // n * l - n - l, for n uses and l literals.
 fn worth(uses: u128, literals: u128) -> i128
-    requires uses { uses ≤ 2 ^ 58 }
-    requires literals { literals ≤ 2 ^ 59 }
+    requires uses { uses ≤ 2 ^ 62 }
+    requires literals { literals ≤ 2 ^ 63 }
     ensures { result ≡ pos (uses * literals) -ℤ pos uses -ℤ pos literals }
 {
     let both = uses * literals;
@@ -236,7 +231,7 @@ impl<R: Row> Network<R> {
     fn own_literals(&self, name: &Name) -> u128
         requires { HasBounds self.now }
         ensures literals { result ≡ own_literals self.now.tables name.now }
-        ensures bound { result ≤ 2 ^ 59 }
+        ensures bound { result ≤ 2 ^ 63 }
     {
         self.sound();
         match self.table(name) {

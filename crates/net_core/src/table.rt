@@ -21,7 +21,7 @@ use std::alloc::{AllocError, Global};
 const INPUT_BOUND: usize = 1 << 30;
 
 /// Nor is a table of so many rows.
-const ROW_BOUND: usize = 1 << 29;
+const ROW_BOUND: usize = 1 << 33;
 
 /// A table: where some row of the cover matches the inputs' bits the value is `phase`, else the
 /// other bit.

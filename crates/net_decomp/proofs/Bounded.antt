@@ -228,7 +228,7 @@ reached_within_nodes rule start rows inputs one circuit new within reached =
 
 -- if only tables change, and there was room for each node more, the bounds are kept
 pub room_bounds : (inputs : ℕ) (circuit new : Circuit) → inputs + MAX_NODES < 2 ^ 30 → HasBounds circuit → new ≡ with_tables circuit new.tables
-    → IsWithinNodes (node_count circuit) 536870911 inputs new → HadRoom circuit new → HasBounds new
+    → IsWithinNodes (node_count circuit) 8589934591 inputs new → HadRoom circuit new → HasBounds new
 room_bounds inputs circuit new narrow bounds rest within had = cases had
   where
     latches : length new.latches ≡ length circuit.latches
@@ -239,7 +239,7 @@ room_bounds inputs circuit new narrow bounds rest within had = cases had
 
     tables : within.added ≤ MAX_NODES → AllByRecursion IsBounded new.tables
     tables few =
-        all_weaker (IsWithin 536870911 (inputs + within.added)) IsBounded
+        all_weaker (IsWithin 8589934591 (inputs + within.added)) IsBounded
         (λ table small. record { rows = omega (arith, small.0); inputs = omega (arith, small.1, few, narrow) }) new.tables within.tables
 
     cases : HadRoom circuit new → HasBounds new
@@ -251,11 +251,11 @@ room_bounds inputs circuit new narrow bounds rest within had = cases had
 pub reached_bounds : (rule : Rule) (inputs : ℕ) (circuit new : Circuit) → 1 ≤ sums_of rule → inputs + MAX_NODES < 2 ^ 30 → IsSound circuit → HasBounds circuit
     → AllByRecursion (λ (table : Table). length table.inputs ≤ inputs) circuit.tables → IsReached rule circuit new → HasBounds new
 reached_bounds rule inputs circuit new one narrow sound bounds all reached =
-    let made = reached_within_nodes rule (node_count circuit) 536870911 inputs one circuit new (record {
+    let made = reached_within_nodes rule (node_count circuit) 8589934591 inputs one circuit new (record {
       sound = sound;
       added = 0;
       nodes = omega arith;
-      tables = all_pair (λ (table : Table). length table.inputs ≤ inputs) IsBounded (IsWithin 536870911 (inputs + 0))
+      tables = all_pair (λ (table : Table). length table.inputs ≤ inputs) IsBounded (IsWithin 8589934591 (inputs + 0))
           (λ table few bounded. (omega (arith, bounded.rows), omega (arith, few))) circuit.tables all bounds.tables;
     }) reached in
     room_bounds inputs circuit new narrow bounds (reached_extended rule circuit new sound reached).change.rest made.0 made.1

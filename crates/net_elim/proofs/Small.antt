@@ -115,7 +115,7 @@ few_enough false most rows inputs h = cases (ltb most rows) refl (ltb 1000 input
     cases false e true f k = absurd (none-some (TooWide inputs) (sym k))
     cases false e false f k = (ltb-false most rows e, ltb-false 1000 inputs f)
 
-pub taken_bounded : (most : ℕ) (inner outer : Table) → suc most < 2 ^ 29
+pub taken_bounded : (most : ℕ) (inner outer : Table) → suc most < 2 ^ 33
     → take_refusal MAX_ROWS most inner outer ≡ None → IsBounded outer
     → IsBounded (composed_into inner outer)
 unfolding composed_into take_refusal
@@ -146,7 +146,7 @@ first_of_both : (x y : Bool) → (x && y) ≡ true → x ≡ true
 first_of_both true y h = refl
 first_of_both false y h = cc
 
-all_taken : (most : ℕ) (inner : Table) (tables : List Table) → suc most < 2 ^ 29
+all_taken : (most : ℕ) (inner : Table) (tables : List Table) → suc most < 2 ^ 33
     → list_all (λ (outer : Table). is_none (take_refusal MAX_ROWS most inner outer)) tables ≡ true
     → AllByRecursion IsBounded tables → AllByRecursion IsBounded (map (composed_into inner) tables)
 all_taken most inner [] small take all = tt
@@ -201,7 +201,7 @@ candidate_taken threshold rows circuit table h =
     (all_take rows circuit table) (second (not (is_root circuit table.output)) _ h)
 
 eliminated_bounded : (threshold : ℤ) (rows : ℕ) (circuit new : Circuit) (inner : Table)
-    → suc rows < 2 ^ 29 → IsSound circuit → eliminate_step threshold rows circuit ≡ Some new
+    → suc rows < 2 ^ 33 → IsSound circuit → eliminate_step threshold rows circuit ≡ Some new
     → new ≡ with_eliminated circuit inner → is_candidate threshold rows circuit inner ≡ true
     → HasBounds circuit → HasBounds new
 unfolding all_take
@@ -219,7 +219,7 @@ all_true : (tables : List Table) → AllByRecursion (λ (table : Table). Unit {0
 all_true [] = tt
 all_true (table ∷ tables) = (tt, all_true tables)
 
-step_bounded : (threshold : ℤ) (rows : ℕ) (circuit new : Circuit) → suc rows < 2 ^ 29
+step_bounded : (threshold : ℤ) (rows : ℕ) (circuit new : Circuit) → suc rows < 2 ^ 33
     → IsSound circuit → eliminate_step threshold rows circuit ≡ Some new → HasBounds circuit
     → HasBounds new
 unfolding eliminate_step
@@ -243,7 +243,7 @@ step_bounded threshold rows circuit new small sound step bounds =
         (sym (same_Some (with_eliminated circuit inner) new h)) candidate.1 bounds
 
 leads_bounded : (threshold : ℤ) (rows : ℕ) (between : List Circuit) (circuit new : Circuit)
-    → suc rows < 2 ^ 29 → IsSound circuit
+    → suc rows < 2 ^ 33 → IsSound circuit
     → Leads (eliminate_step threshold rows) between circuit new
     → HasBounds circuit → HasBounds new
 leads_bounded threshold rows [] circuit new small sound leads bounds = subst HasBounds leads bounds
@@ -252,7 +252,7 @@ leads_bounded threshold rows (next ∷ rest) circuit new small sound leads bound
     (step_reduced threshold rows circuit next sound leads.0).change.sound leads.1
     (step_bounded threshold rows circuit next small sound leads.0 bounds)
 
-pub chain_bounded : (threshold : ℤ) (rows : ℕ) (circuit new : Circuit) → rows + 1 < 2 ^ 29
+pub chain_bounded : (threshold : ℤ) (rows : ℕ) (circuit new : Circuit) → rows + 1 < 2 ^ 33
     → IsSound circuit → Chain (eliminate_step threshold rows) circuit new → HasBounds circuit
     → HasBounds new
 chain_bounded threshold rows circuit new small sound chain bounds =

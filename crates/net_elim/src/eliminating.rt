@@ -228,7 +228,7 @@ pub fn eliminate<R: Row>(
     rows: usize,
 ) -> Result<Network<R>, AllocError>
     ensures chain { IfOk result (λ new. Chain (eliminate_step threshold rows) network.now new) }
-    ensures bounds { rows + 1 < 2 ^ 29 → HasBounds network.now → IfOk result HasBounds }
+    ensures bounds { rows + 1 < 2 ^ 33 → HasBounds network.now → IfOk result HasBounds }
 {
     let mut work = WorkingNetwork::of(alloc, network)?;
     take_steps(alloc, &mut work, threshold, rows)?;

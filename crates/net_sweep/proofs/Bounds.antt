@@ -11,7 +11,7 @@ use Rattle.net_wires.proofs.Larger.{chain_no_larger}
 
 -- rows and inputs that are few enough, as greatest numbers
 rows_within : (tables : List Table) → AllByRecursion IsBounded tables
-    → AllByRecursion (λ (table : Table). length table.rows ≤ 2 ^ 29 - 1) tables
+    → AllByRecursion (λ (table : Table). length table.rows ≤ 2 ^ 33 - 1) tables
 rows_within [] h = tt
 rows_within (table ∷ tables) h = (omega (arith, h.0.rows), rows_within tables h.1)
 
@@ -21,7 +21,7 @@ inputs_within [] h = tt
 inputs_within (table ∷ tables) h = (omega (arith, h.0.inputs), inputs_within tables h.1)
 
 both_bounded : (tables : List Table)
-    → AllByRecursion (λ (table : Table). length table.rows ≤ 2 ^ 29 - 1) tables
+    → AllByRecursion (λ (table : Table). length table.rows ≤ 2 ^ 33 - 1) tables
     → AllByRecursion (λ (table : Table). length table.inputs ≤ 2 ^ 30 - 1) tables
     → AllByRecursion IsBounded tables
 both_bounded [] h k = tt
@@ -37,7 +37,7 @@ no_larger : (old new : Circuit) → IsNoLarger old new → HasBounds old → Has
 no_larger old new less h = record {
   nodes = omega (arith, less.nodes, h.nodes);
   tables = both_bounded new.tables
-      (less.rows (2 ^ 29 - 1) (omega arith) (rows_within old.tables h.tables))
+      (less.rows (2 ^ 33 - 1) (omega arith) (rows_within old.tables h.tables))
       (less.inputs (2 ^ 30 - 1) (inputs_within old.tables h.tables));
 }
 

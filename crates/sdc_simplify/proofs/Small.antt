@@ -74,14 +74,14 @@ tidied_bounded table shaped bounded =
     }
 
 -- rows of phase 1 are as many as the table's, or the on-list's, which is not long
-on_few : (table : Table) → is_list_long table ≡ false → length table.rows < 2 ^ 29 → length (on_rows table) < 2 ^ 29
+on_few : (table : Table) → is_list_long table ≡ false → length table.rows < 2 ^ 33 → length (on_rows table) < 2 ^ 33
 unfolding is_list_long on_rows
 on_few table short few = cases table.phase short
   where
     listed : List (List (Option Bool))
     listed = list_rows (length table.inputs) false (map places_of table.rows)
 
-    cases : (phase : Bool) → (not phase && ltb MAX_ROWS (length listed)) ≡ false → length (if phase then map places_of table.rows else listed) < 2 ^ 29
+    cases : (phase : Bool) → (not phase && ltb MAX_ROWS (length listed)) ≡ false → length (if phase then map places_of table.rows else listed) < 2 ^ 33
     cases true h = let same : length (map places_of table.rows) ≡ length table.rows = length-map table.rows places_of in omega (arith, same, few)
     cases false h = let most : length listed ≤ MAX_ROWS = ltb-false MAX_ROWS (length listed) h in omega (arith, most)
 

@@ -7,10 +7,10 @@
 pub const MAX_NAME: usize = 1_023;
 
 /// Tables, gates and latches of a circuit, including those of its don't-care part.
-pub const MAX_NODES: usize = 65_535;
+pub const MAX_NODES: usize = 1_048_575;
 
 /// Rows of a table, and of each list of rows that a command computes from it.
-pub const MAX_ROWS: usize = 32_767;
+pub const MAX_ROWS: usize = 1_000_000;
 
 /// Inputs of a table.
 pub const MAX_INPUTS: usize = 1_000;

@@ -211,13 +211,13 @@ unfolding op_of op_by form_named parse fill parse_at
 no_rows = refl
 
 last_rows :
-    op_of (codes "eliminate" ∷ codes "-l" ∷ codes "32767" ∷ codes "1" ∷ []) ≡
+    op_of (codes "eliminate" ∷ codes "-l" ∷ codes "1000000" ∷ codes "1" ∷ []) ≡
     Change (Eliminate (pos 1) most_rows)
 unfolding op_of op_by form_named number_given parse fill parse_at
     value_of number_within integer_of number_of
 last_rows = refl
 
-past_rows : op_of (codes "eliminate" ∷ codes "-l" ∷ codes "32768" ∷ codes "1" ∷ []) ≡ Bad BadOption
+past_rows : op_of (codes "eliminate" ∷ codes "-l" ∷ codes "1000001" ∷ codes "1" ∷ []) ≡ Bad BadOption
 unfolding op_of op_by form_named parse fill parse_at value_of number_within integer_of number_of
 past_rows = refl
 

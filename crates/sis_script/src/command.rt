@@ -66,7 +66,7 @@ pub enum Change {
     Sweep,
     /// Eliminates inner tables of a value up to this number into their fanouts, unless a fanout
     /// would get more rows than this.
-    Eliminate(i32, u16),
+    Eliminate(i32, u32),
     /// Eliminates all inner tables into their fanouts.
     Collapse,
     /// Minimizes each table, with don't-cares from the tables of its inputs.

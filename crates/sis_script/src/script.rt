@@ -129,7 +129,7 @@ fn eliminate_op(given: Given) -> Op
     ensures { result ≡ eliminate_op given }
 {
     let most = number_given(b'l', given.options.as_slice()).unwrap_or(USUAL_ROWS);
-    let rows = most.min(MOST_ROWS) as u16;
+    let rows = most.min(MOST_ROWS) as u32;
     match first_word(given) {
         Some(Value::Integer(threshold)) => Op::Change(Change::Eliminate(threshold, rows)),
         _ => Op::Bad(ScriptFault::MissingWord),

@@ -35,7 +35,7 @@ fn eliminated(
     alloc: Global,
     network: &Network<PlainRow>,
     threshold: i32,
-    rows: u16,
+    rows: u32,
 ) -> Result<Network<PlainRow>, AllocError>
     requires { HasBounds network.now }
     ensures chain { IfOk result (λ new. Chain (eliminate_step threshold rows) network.now new) }

@@ -78,7 +78,7 @@ open_rows : (rows : List (List Tri)) → some_row_or_phase_one rows true ≡ tru
 open_rows [] = refl
 open_rows (row ∷ rows) = refl
 
-narrow_bounded : (table : Table) → length table.rows < 2 ^ 29 → length table.inputs < 2 ^ 30
+narrow_bounded : (table : Table) → length table.rows < 2 ^ 33 → length table.inputs < 2 ^ 30
     → IsBounded (narrowed (with_rows_once table))
 unfolding narrowed
 narrow_bounded table rows inputs = record {

@@ -8,7 +8,8 @@
 //!
 //! A text is written as lines of which each gives its bytes without a line end: `\n`, `\r`, `\t`
 //! are those bytes, `\s` a blank, and `\` before another character is that character. A line
-//! `*COUNT REST` is the bytes of REST as often as the number says.
+//! `*COUNT REST` is the bytes of REST as often as the number says, with `\i` for the number of the
+//! copy, from 0.
 #![tactic(auto)]
 
 mod case;

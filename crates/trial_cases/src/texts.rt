@@ -12,6 +12,7 @@ fn escaped(byte: u8) -> u8 {
         b'r' => b'\r',
         b't' => b'\t',
         b's' => b' ',
+        b'i' => 0,
         _ => byte,
     }
 }
@@ -38,12 +39,29 @@ pub fn number_of(word: &str) -> Result<usize, CaseFault> {
     word.parse::<usize>().map_err(|_| CaseFault::Bad)
 }
 
+/// Appends bytes to a text, with a number in place of each zero byte.
+fn put_copy(
+    alloc: Global,
+    out: &mut Vec<u8>,
+    bytes: &[u8],
+    number: usize,
+) -> Result<(), AllocError> {
+    for byte in bytes {
+        if *byte == 0 {
+            put_number(alloc, out, number)?;
+        } else {
+            out.push(*byte)?;
+        }
+    }
+    Ok(())
+}
+
 /// Appends the bytes of a line `COUNT REST` to a text.
 fn put_times(alloc: Global, out: &mut Vec<u8>, line: &str) -> Result<(), CaseFault> {
     let (count, rest) = line.split_once(' ').ok_or(CaseFault::Bad)?;
     let part = unescaped(alloc, rest)?;
-    for _ in 0..number_of(count)? {
-        out.extend_from_slice(part.as_slice())?;
+    for number in 0..number_of(count)? {
+        put_copy(alloc, out, part.as_slice(), number)?;
     }
     Ok(())
 }

@@ -14,9 +14,9 @@ slot_literals-total-requires g c = all_present_at IsBounded c.args.slots.now c.l
 
 pub overflow_add-total : goal.overflow_add-total
 overflow_add-total g c =
-    let sums = sum_slots literals_of_table (2 ^ 93) c.args.slots.now c.loop-slot.slot-index c.slot-item.result c.loop-slot.total c.slot_literals-total.result c.loop-slot-test.true c.slot-item.is c.loop-slot.invariant c.slot_literals-total.ensures.literals c.slot_literals-total.ensures.bound in
-    omega (arith, sum_small c.args.slots.now _ (2 ^ 93) _ sums.1 c.requires.few)
+    let sums = sum_slots literals_of_table (2 ^ 97) c.args.slots.now c.loop-slot.slot-index c.slot-item.result c.loop-slot.total c.slot_literals-total.result c.loop-slot-test.true c.slot-item.is c.loop-slot.invariant c.slot_literals-total.ensures.literals c.slot_literals-total.ensures.bound in
+    omega (arith, sum_small c.args.slots.now _ (2 ^ 97) _ sums.1 c.requires.few)
 
 pub loop-slot-preserved : goal.loop-slot-preserved
 loop-slot-preserved g c =
-    sum_slots literals_of_table (2 ^ 93) c.args.slots.now c.loop-slot.slot-index c.slot-item.result c.loop-slot.total c.slot_literals-total.result c.loop-slot-test.true c.slot-item.is c.loop-slot.invariant c.slot_literals-total.ensures.literals c.slot_literals-total.ensures.bound
+    sum_slots literals_of_table (2 ^ 97) c.args.slots.now c.loop-slot.slot-index c.slot-item.result c.loop-slot.total c.slot_literals-total.result c.loop-slot-test.true c.slot-item.is c.loop-slot.invariant c.slot_literals-total.ensures.literals c.slot_literals-total.ensures.bound

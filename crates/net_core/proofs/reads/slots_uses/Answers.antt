@@ -14,9 +14,9 @@ slot_uses-total-requires g c = all_present_at IsBounded c.args.slots.now c.loop-
 
 pub overflow_add-total : goal.overflow_add-total
 overflow_add-total g c =
-    let sums = sum_slots (uses_in c.args.name.now) (2 ^ 29) c.args.slots.now c.loop-slot.slot-index c.slot-item.result c.loop-slot.total c.slot_uses-total.result c.loop-slot-test.true c.slot-item.is c.loop-slot.invariant c.slot_uses-total.ensures.uses c.slot_uses-total.ensures.bound in
-    omega (arith, sum_small c.args.slots.now _ (2 ^ 29) _ sums.1 c.requires.few)
+    let sums = sum_slots (uses_in c.args.name.now) (2 ^ 33) c.args.slots.now c.loop-slot.slot-index c.slot-item.result c.loop-slot.total c.slot_uses-total.result c.loop-slot-test.true c.slot-item.is c.loop-slot.invariant c.slot_uses-total.ensures.uses c.slot_uses-total.ensures.bound in
+    omega (arith, sum_small c.args.slots.now _ (2 ^ 33) _ sums.1 c.requires.few)
 
 pub loop-slot-preserved : goal.loop-slot-preserved
 loop-slot-preserved g c =
-    sum_slots (uses_in c.args.name.now) (2 ^ 29) c.args.slots.now c.loop-slot.slot-index c.slot-item.result c.loop-slot.total c.slot_uses-total.result c.loop-slot-test.true c.slot-item.is c.loop-slot.invariant c.slot_uses-total.ensures.uses c.slot_uses-total.ensures.bound
+    sum_slots (uses_in c.args.name.now) (2 ^ 33) c.args.slots.now c.loop-slot.slot-index c.slot-item.result c.loop-slot.total c.slot_uses-total.result c.loop-slot-test.true c.slot-item.is c.loop-slot.invariant c.slot_uses-total.ensures.uses c.slot_uses-total.ensures.bound

@@ -5,4 +5,4 @@ use Rattle.net_core.specs.Reads.{uses_in}
 use Rattle.net_core.proofs.reads.slots_uses.Given as goal
 
 abbrev pub invariant-loop-slot : goal.invariant-loop-slot
-invariant-loop-slot g l = (l.total ≡ sum_by (uses_in l.name) (present (take l.slot-index l.slots))) × (l.total ≤ length (present (take l.slot-index l.slots)) * 2 ^ 29)
+invariant-loop-slot g l = (l.total ≡ sum_by (uses_in l.name) (present (take l.slot-index l.slots))) × (l.total ≤ length (present (take l.slot-index l.slots)) * 2 ^ 33)

@@ -13,5 +13,5 @@ returns-clause-chain c =
 
 pub returns-clause-bounds : goal.returns-clause-bounds
 returns-clause-bounds c =
-    let few : c.args.rows + 1 < 2 ^ 29 = omega (arith, c.ranges.rows.fits) in
+    let few : c.args.rows + 1 < 2 ^ 33 = omega (arith, c.ranges.rows.fits) in
     c.eliminate.ensures.bounds few c.requires

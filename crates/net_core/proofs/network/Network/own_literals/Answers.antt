@@ -10,5 +10,5 @@ table_literals-requires g c =
 
 pub returns-in-Some-clause-bound : goal.returns-in-Some-clause-bound
 returns-in-Some-clause-bound g c =
-    subst (λ (n : ℕ). n ≤ 2 ^ 59) (sym (c.table_literals.ensures.literals c.args.name.now))
+    subst (λ (n : ℕ). n ≤ 2 ^ 63) (sym (c.table_literals.ensures.literals c.args.name.now))
     (literals_bound c.args.self.now c.args.name.now (named c.args.name.now c.in-Some.table.now) c.sound.ensures c.requires c.in-Some.ensures.driver)
