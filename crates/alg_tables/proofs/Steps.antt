@@ -1,8 +1,8 @@
 -- The computation: names with their indices, one after the other, and the composed table with its
 -- limits.
-use Rattle.std.proofs.Common.{◌≡◌, ℕ, ◌+◌, ◌-◌, ◌<◌, ◌≤◌, zero, suc, Bool, true, false, not, ◌&&◌, ◌||◌, cond, ltb, if◌then◌else◌, Option, Some, None, is_none, List, [], ◌∷◌, ◌++◌, length, get_or, take, map, bytes_eq, position, refl, sym, ap, ap₂, ◌∙◌, subst, arith, inl, inr, ◌⊎◌}
+use Rattle.std.proofs.Common.{◌≡◌, ℕ, ◌+◌, ◌-◌, ◌<◌, zero, suc, Bool, true, false, not, ◌&&◌, ◌||◌, cond, ltb, if◌then◌else◌, Option, Some, None, is_none, List, [], ◌∷◌, ◌++◌, length, get_or, take, map, bytes_eq, position, refl, sym, ap, ap₂, ◌∙◌, subst, arith, inl, inr, ◌⊎◌}
 use Rattle.std.specs.Option.{option_map_or}
-use Rattle.std.proofs.lemmas.Bool.{false≢true, lt-ltb, le-ltb, ltb-true, or_left, or_right, or_from, false_from_ne_true}
+use Rattle.std.proofs.lemmas.Bool.{false≢true, lt-ltb, ltb-true, or_left, or_right, or_from, false_from_ne_true}
 use Rattle.std.proofs.lemmas.List.{length-map, get_or-map, append_assoc, take_more}
 use Rattle.std.proofs.lemmas.List.Elements.{filter_more}
 use Rattle.circuit_model.specs.Names.{has, all_different}
@@ -124,45 +124,41 @@ short_test a n m k l none =
     cases true is false e = refl
     cases false is b e = refl
 
-pub composed_long : {R : Type 0} (list_limit row_limit place : ℕ) (inner outer : CoverTable R) (places : List (Option ℕ)) → IsOverInputs inner → IsOverInputs outer → places ≡ entries outer.inputs inner.inputs
+composed_long : {R : Type 0} (list_limit row_limit place : ℕ) (inner outer : CoverTable R) (places : List (Option ℕ)) → IsOverInputs inner → IsOverInputs outer → places ≡ entries outer.inputs inner.inputs
     → IsTooLong list_limit row_limit outer.cover place inner.cover inner.phase places → (name output : List ℕ) → is_cube_long list_limit row_limit place (named name inner) (named output outer) ≡ true
 composed_long list_limit row_limit place inner outer places inner_over outer_over at long name output =
     cube_test list_limit row_limit place inner outer places name output inner_over outer_over at
     ∙ long_test (asks place (not inner.phase) outer.cover.rows) list_limit (length (list_rows inner.cover.width false inner.cover.rows)) row_limit
     (length (composition outer.cover place inner.cover inner.phase places).rows) long
 
-pub composed_short : {R : Type 0} (list_limit row_limit place : ℕ) (inner outer : CoverTable R) (places : List (Option ℕ)) → IsOverInputs inner → IsOverInputs outer → places ≡ entries outer.inputs inner.inputs
+composed_short : {R : Type 0} (list_limit row_limit place : ℕ) (inner outer : CoverTable R) (places : List (Option ℕ)) → IsOverInputs inner → IsOverInputs outer → places ≡ entries outer.inputs inner.inputs
     → (IsTooLong list_limit row_limit outer.cover place inner.cover inner.phase places → ⊥) → (name output : List ℕ) → is_cube_long list_limit row_limit place (named name inner) (named output outer) ≡ false
 composed_short list_limit row_limit place inner outer places inner_over outer_over at short name output =
     cube_test list_limit row_limit place inner outer places name output inner_over outer_over at
     ∙ short_test (asks place (not inner.phase) outer.cover.rows) list_limit (length (list_rows inner.cover.width false inner.cover.rows)) row_limit
     (length (composition outer.cover place inner.cover inner.phase places).rows) short
 
-pub long_fault : {R : Type 0} (list_limit row_limit place : ℕ) (inner outer : CoverTable R) (places : List (Option ℕ)) (fault : ComposeFault) → IsOverInputs inner → IsOverInputs outer
+-- the refusal by its two tests
+refusal_is : (list_limit row_limit place width : ℕ) (inner outer : Table) (long : Bool) → is_cube_long list_limit row_limit place inner outer ≡ long → length (composed_at place inner outer).inputs ≡ width
+    → refusal_at list_limit row_limit place inner outer ≡ (if long then Some CubeLimit else (if ltb MAX_INPUTS width then Some (TooWide width) else None))
+refusal_is list_limit row_limit place width inner outer long test wide =
+    ap₂ (λ (b : Bool) (n : ℕ). if b then Some CubeLimit else (if ltb MAX_INPUTS n then Some (TooWide n) else None)) test wide
+
+pub refusal_long : {R : Type 0} (list_limit row_limit place : ℕ) (inner outer : CoverTable R) (places : List (Option ℕ)) (fault : ComposeFault) → IsOverInputs inner → IsOverInputs outer
     → places ≡ entries outer.inputs inner.inputs → (fault ≡ Memory) ⊎ ((fault ≡ CubeLimit) × IsTooLong list_limit row_limit outer.cover place inner.cover inner.phase places)
-    → (fault ≡ Memory) ⊎ ((fault ≡ CubeLimit) × ((name output : List ℕ) → is_cube_long list_limit row_limit place (named name inner) (named output outer) ≡ true))
-long_fault list_limit row_limit place inner outer places fault inner_over outer_over at (inl memory) = inl memory
-long_fault list_limit row_limit place inner outer places fault inner_over outer_over at (inr long) =
-    inr (long.0, composed_long list_limit row_limit place inner outer places inner_over outer_over at long.1)
+    → (fault ≡ Memory) ⊎ ((name output : List ℕ) → refusal_at list_limit row_limit place (named name inner) (named output outer) ≡ Some fault)
+refusal_long list_limit row_limit place inner outer places fault inner_over outer_over at (inl memory) = inl memory
+refusal_long list_limit row_limit place inner outer places fault inner_over outer_over at (inr long) = inr (λ name output.
+    refusal_is list_limit row_limit place _ (named name inner) (named output outer) true (composed_long list_limit row_limit place inner outer places inner_over outer_over at long.1 name output) refl
+    ∙ ap (λ (f : ComposeFault). Some f) (sym long.0))
 
--- when the result is too wide
-made_wide : {R : Type 0} (made : CoverTable R) (place width : ℕ) (inner outer : Table) (output : List ℕ) → named output made ≡ composed_at place inner outer → width ≡ length made.inputs → length (composed_at place inner outer).inputs ≡ width
-unfolding named
-made_wide made place width inner outer output is long = ap (λ (table : Table). length table.inputs) (sym is) ∙ sym long
-
-pub refused_wide : {R : Type 0} (list_limit row_limit place width : ℕ) (made : CoverTable R) (inner outer : Table) (output : List ℕ) → is_cube_long list_limit row_limit place inner outer ≡ false
-    → named output made ≡ composed_at place inner outer → width ≡ length made.inputs → MAX_INPUTS < width → refusal_at list_limit row_limit place inner outer ≡ Some (TooWide width)
-refused_wide list_limit row_limit place width made inner outer output short is long wide =
-    ap (λ (b : Bool). if b then Some CubeLimit else (if ltb MAX_INPUTS (length (composed_at place inner outer).inputs) then Some (TooWide (length (composed_at place inner outer).inputs)) else None)) short
-    ∙ ap (λ (n : ℕ). if ltb MAX_INPUTS n then Some (TooWide n) else None) (made_wide made place width inner outer output is long)
-    ∙ ap (λ (b : Bool). if b then Some (TooWide width) else None) (lt-ltb MAX_INPUTS width wide)
-
-pub refused_none : {R : Type 0} (list_limit row_limit place width : ℕ) (made : CoverTable R) (inner outer : Table) (output : List ℕ) → is_cube_long list_limit row_limit place inner outer ≡ false
-    → named output made ≡ composed_at place inner outer → width ≡ length made.inputs → width ≤ MAX_INPUTS → refusal_at list_limit row_limit place inner outer ≡ None
-refused_none list_limit row_limit place width made inner outer output short is long narrow =
-    ap (λ (b : Bool). if b then Some CubeLimit else (if ltb MAX_INPUTS (length (composed_at place inner outer).inputs) then Some (TooWide (length (composed_at place inner outer).inputs)) else None)) short
-    ∙ ap (λ (n : ℕ). if ltb MAX_INPUTS n then Some (TooWide n) else None) (made_wide made place width inner outer output is long)
-    ∙ ap (λ (b : Bool). if b then Some (TooWide width) else None) (le-ltb MAX_INPUTS width narrow)
+pub refusal_short : {R : Type 0} (list_limit row_limit place width : ℕ) (inner outer : CoverTable R) (inputs : List (List ℕ)) (places : List (Option ℕ)) (wide : Bool) → IsOverInputs inner → IsOverInputs outer
+    → places ≡ entries outer.inputs inner.inputs → (IsTooLong list_limit row_limit outer.cover place inner.cover inner.phase places → ⊥) → inputs ≡ joined place outer.inputs inner.inputs → width ≡ length inputs
+    → ltb MAX_INPUTS width ≡ wide → (name output : List ℕ) → refusal_at list_limit row_limit place (named name inner) (named output outer) ≡ (if wide then Some (TooWide width) else None)
+unfolding named composed_at
+refusal_short list_limit row_limit place width inner outer inputs places wide inner_over outer_over at short is long test name output =
+    refusal_is list_limit row_limit place width (named name inner) (named output outer) false (composed_short list_limit row_limit place inner outer places inner_over outer_over at short name output) (sym (long ∙ ap length is))
+    ∙ ap (λ (b : Bool). if b then Some (TooWide width) else None) test
 
 -- the column in which the table reads the signal, and no column if it does not
 pub place_read : (names : List (List ℕ)) (name : List ℕ) (place : ℕ) → position (bytes_eq name) names ≡ Some place → (place < length names) × (get_or names place [] ≡ name)

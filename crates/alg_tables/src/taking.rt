@@ -8,12 +8,12 @@
 //! result is in normal form. Callers rely on `laws`: the fanout keeps its value, and no longer
 //! reads the eliminated signal.
 
-ghost use Rattle.std.specs.Prelude.{◌≡◌, ◌<◌, ℕ, Bool, true, false, Some, None, List, [], length, position, bytes_eq, slice_index_or, IfOk, IfErr, OnOk, ◌⊎◌};
+ghost use Rattle.std.specs.Prelude.{◌≡◌, ◌<◌, ℕ, true, false, Some, None, List, [], length, slice_index_or, IfOk, IfErr, OnOk, ◌⊎◌};
 ghost use Rattle.circuit_model.specs.Names.{has, all_different};
 ghost use Rattle.net_core.specs.Tables.{named, IsOverInputs};
 ghost use Rattle.circuit_tables.specs.Tidy.{tidied};
 ghost use Rattle.cover_ops.specs.Composed.{AreEntries, IsTooLong, composition};
-ghost use Rattle.alg_tables.specs.Taking.{entries, composed_at, composed_into, is_cube_long, refusal_at, take_refusal};
+ghost use Rattle.alg_tables.specs.Taking.{entries, composed_at, composed_into, refusal_at, take_refusal};
 ghost use Rattle.alg_tables.specs.declared.taking.ComposeFault.TheVariants.{CubeLimit, Memory};
 
 use crate::inputs::{joined_names, place_among, places_of};
@@ -95,54 +95,6 @@ fn composed_cover<R: Row>(
     }
 }
 
-// A table with another one composed in place of an input; not yet in normal form.
-fn composed<R: Row>(
-    alloc: Global,
-    place: usize,
-    inner: &CoverTable<R>,
-    outer: &CoverTable<R>,
-    list_limit: usize,
-    row_limit: usize,
-) -> Result<CoverTable<R>, ComposeFault>
-    requires inner_over { IsOverInputs inner.now }
-    requires outer_over { IsOverInputs outer.now }
-    requires inner_once { all_different inner.now.inputs ≡ true }
-    requires outer_once { all_different outer.now.inputs ≡ true }
-    requires place { place < length outer.now.inputs }
-    requires apart { has inner.now.inputs (slice_index_or outer.now.inputs place []) ≡ false }
-    ensures ok { IfOk result (λ made. (name output : List ℕ) → named output made ≡ composed_at place
-        (named name inner.now) (named output outer.now)) }
-    ensures over { IfOk result IsOverInputs }
-    ensures within { OnOk result ((name output : List ℕ) → is_cube_long list_limit row_limit place
-        (named name inner.now) (named output outer.now) ≡ false) }
-    ensures fault { IfErr result (λ fault. (fault ≡ Memory)
-        ⊎ ((fault ≡ CubeLimit) × ((name output : List ℕ) → is_cube_long list_limit row_limit place
-        (named name inner.now) (named output outer.now) ≡ true))) }
-{
-    let places = places_of(alloc, outer.inputs.as_slice(), inner.inputs.as_slice())?;
-    let cover = composed_cover(
-        alloc,
-        place,
-        inner,
-        outer,
-        places.as_slice(),
-        list_limit,
-        row_limit,
-    )?;
-    let inputs = joined_names(
-        alloc,
-        place,
-        outer.inputs.as_slice(),
-        inner.inputs.as_slice(),
-        places.as_slice(),
-    )?;
-    Ok(CoverTable {
-        inputs,
-        cover,
-        phase: outer.phase,
-    })
-}
-
 // A table with another one composed in place of an input, in normal form.
 fn taken_at<R: Row>(
     alloc: Global,
@@ -167,11 +119,32 @@ fn taken_at<R: Row>(
         ⊎ ((name output : List ℕ) → refusal_at list_limit row_limit place (named name inner.now)
         (named output outer.now) ≡ Some fault)) }
 {
-    let made = composed(alloc, place, inner, outer, list_limit, row_limit)?;
-    let width = made.inputs.len();
+    let places = places_of(alloc, outer.inputs.as_slice(), inner.inputs.as_slice())?;
+    let cover = composed_cover(
+        alloc,
+        place,
+        inner,
+        outer,
+        places.as_slice(),
+        list_limit,
+        row_limit,
+    )?;
+    let inputs = joined_names(
+        alloc,
+        place,
+        outer.inputs.as_slice(),
+        inner.inputs.as_slice(),
+        places.as_slice(),
+    )?;
+    let width = inputs.len();
     if width > MAX_INPUTS {
         return Err(ComposeFault::TooWide(width));
     }
+    let made = CoverTable {
+        inputs,
+        cover,
+        phase: outer.phase,
+    };
     let tidy_table = tidy(alloc, &made)?;
     Ok(tidy_table)
 }
