@@ -16,6 +16,7 @@ use Rattle.tree_cover.specs.declared.choice.Choice.{Choice}
 use Rattle.tree_cover.specs.Covers.{Tile, tile_of, tiles, Cover, leaf_cover, Least, LeastOfAll, Stands, IsGiven, choice_cmp}
 use Rattle.tree_cover.specs.Candidates.{order_of, BestOf, Below, FromGates, IsUsable, IsLibrary, IsSmall, IsChoice, AreMade, cost_at}
 use Rattle.tree_cover.proofs.Choosing.{contains_get, given-least, at_most}
+use Rattle.tree_cover.proofs.Growing.{told}
 use Rattle.tree_cover.proofs.Open.{get_map, get_some, get_all, all_gets, pushed_at}
 use Rattle.tree_cover.proofs.Reaching.{Lists, some_lists, inverter_fits, nand_fits}
 use Rattle.tree_cover.proofs.Standing.{stands_from, from_stands, have_least}
@@ -122,6 +123,15 @@ module _ (cmp : Tree ℕ → Tree ℕ → Ordering) (vs shapes : List Vertex) (g
           let (d, q, us, s, le) = cheap inner in
           let c : x.cost ≤ d = at_most x.cost d _ (given.first d q us s) in
           omega (arith, c, le)
+
+-- the tree of a vertex that is no leaf
+pub no_leaf : (vs : List Vertex) (n : ℕ) (v : Vertex) → IsArena vs → v ≡ vertex_at vs n → ((place : ℕ) → v ≡ AtLeaf place → ⊥) → (place : ℕ) → tree_at vs n ≡ Leaf place → ⊥
+no_leaf vs n v arena e inner place leaf = by_vertex v inner (sym (told vs n v v arena e refl) ∙ leaf)
+  where
+    by_vertex : (x : Vertex) → ((place : ℕ) → x ≡ AtLeaf place → ⊥) → built (trees vs) x ≡ Leaf place → ⊥
+    by_vertex (AtLeaf at) none is = none at refl
+    by_vertex (AtInv m) none is = cc
+    by_vertex (AtNand m k) none is = cc
 
 -- a leaf costs nothing
 pub leaf_made : (cmp : Tree ℕ → Tree ℕ → Ordering) (vs : List Vertex) (library : List Tile) (n place : ℕ) (x : Choice) → tree_at vs n ≡ Leaf place → x.cost ≡ 0 → x.pins ≡ [] → IsChoice cmp vs library n x

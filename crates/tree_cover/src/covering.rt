@@ -12,10 +12,10 @@
 ghost use Rattle.std.specs.Prelude.{◌≡◌, ◌≤◌, ◌<◌, ◌*◌, ◌^◌, ℕ, List, Some, None, length, IfOk};
 ghost use Rattle.std.specs.List.{AllByRecursion, sum_by};
 ghost use Rattle.subject_tree.specs.Order.{tree_cmp, place_cmp};
-ghost use Rattle.subject_tree.specs.Trees.{Leaf as TheLeaf, size_of};
+ghost use Rattle.subject_tree.specs.Trees.{size_of};
 ghost use Rattle.subject_tree.specs.Arenas.{tree_at};
 ghost use Rattle.tree_cover.specs.declared.choice.Choice.{Choice};
-ghost use Rattle.tree_cover.specs.Covers.{IsProper, tiles};
+ghost use Rattle.tree_cover.specs.Covers.{tiles};
 ghost use Rattle.tree_cover.specs.Bindings.{PinsBelow};
 ghost use Rattle.tree_cover.specs.Held.{choice_of, held};
 ghost use Rattle.tree_cover.specs.Outlines.{AreOutlines, TellMisfits};
@@ -160,43 +160,8 @@ fn best_bound(
     Ok(best)
 }
 
-// The best choice from the matches of a gate's pattern at the tree of a number.
-fn best_match(
-    alloc: Global,
-    leaves: &Leaves,
-    nodes: &Arena,
-    shapes: &Arena,
-    choices: &Choices,
-    gate: &PatternGate,
-    place: usize,
-    number: usize,
-    pattern: usize,
-) -> Result<Option<Candidate>, AllocError>
-    requires number { number < length nodes.now }
-    requires proper { IsProper (tree_at shapes.now pattern) }
-    requires below { PinsBelow MAX_PINS (tree_at shapes.now pattern) }
-    requires choices { AllByRecursion IsSmall choices.now }
-    requires area { gate.now.area < 2 ^ 50 }
-    requires pins { gate.now.pins ≤ MAX_PINS }
-    ensures { IfOk result (λ best. BestOf (order_of (tree_cmp (place_cmp leaves.now)) nodes.now)
-        (FromPattern nodes.now choices.now gate.now place number (tree_at shapes.now pattern))
-        (held best)) }
-{
-    let bindings = matches(alloc, nodes, shapes, pattern, number)?;
-    let best = best_bound(
-        alloc,
-        leaves,
-        nodes,
-        choices,
-        gate,
-        place,
-        bindings.as_slice(),
-    )?;
-    Ok(best)
-}
-
-// The best choice from a gate's pattern at the tree of a number; none if their top two levels do
-// not fit.
+// The best choice from the matches of a gate's pattern at the tree of a number; none if their top
+// two levels do not fit.
 fn best_pattern(
     alloc: Global,
     leaves: &Leaves,
@@ -221,8 +186,15 @@ fn best_pattern(
     if !may_fit(shapes, nodes, pattern, number) {
         return Ok(None);
     }
-    let best = best_match(
-        alloc, leaves, nodes, shapes, choices, gate, place, number, pattern,
+    let bindings = matches(alloc, nodes, shapes, pattern, number)?;
+    let best = best_bound(
+        alloc,
+        leaves,
+        nodes,
+        choices,
+        gate,
+        place,
+        bindings.as_slice(),
     )?;
     Ok(best)
 }
@@ -301,46 +273,6 @@ fn best_choice(
     Ok(best)
 }
 
-// The choice at a vertex that is no leaf, from those at the vertices before it.
-fn choose_gate(
-    alloc: Global,
-    leaves: &Leaves,
-    nodes: &Arena,
-    shapes: &Arena,
-    choices: &Choices,
-    gates: &[PatternGate],
-    lines: &Outlines,
-    number: usize,
-) -> Result<Candidate, AllocError>
-    requires number { number < length nodes.now }
-    requires lines { AreOutlines lines.now.arena shapes.now lines.now.numbers.items }
-    requires inner { (place : ℕ) → tree_at nodes.now number ≡ TheLeaf place → ⊥ }
-    requires library { IsLibrary shapes.now gates.now }
-    requires small { AllByRecursion IsSmall choices.now }
-    requires made { AreMade (tree_cmp (place_cmp leaves.now)) nodes.now
-        (tiles shapes.now gates.now) choices.now number }
-    ensures { IfOk result (λ choice. IsChoice (tree_cmp (place_cmp leaves.now)) nodes.now
-        (tiles shapes.now gates.now) number (choice_of choice)) }
-{
-    nodes.sound();
-    let marks = marks_of(alloc, &lines.arena, nodes, number)?;
-    let best = best_choice(
-        alloc,
-        leaves,
-        nodes,
-        shapes,
-        choices,
-        gates,
-        number,
-        lines.numbers.as_slice(),
-        marks.as_slice(),
-    )?;
-    match best {
-        Some(candidate) => Ok(candidate),
-        None => unreachable!(),
-    }
-}
-
 // The choice at a vertex, from those at the vertices before it.
 fn choose(
     alloc: Global,
@@ -369,8 +301,22 @@ fn choose(
             pins: Short::new(alloc),
         });
     }
-    let choice = choose_gate(alloc, leaves, nodes, shapes, choices, gates, lines, number)?;
-    Ok(choice)
+    let marks = marks_of(alloc, &lines.arena, nodes, number)?;
+    let best = best_choice(
+        alloc,
+        leaves,
+        nodes,
+        shapes,
+        choices,
+        gates,
+        number,
+        lines.numbers.as_slice(),
+        marks.as_slice(),
+    )?;
+    match best {
+        Some(candidate) => Ok(candidate),
+        None => unreachable!(),
+    }
 }
 
 /// The choice at each vertex, in the order of their numbers: a cover of least cost; of such covers
