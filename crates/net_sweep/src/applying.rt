@@ -212,44 +212,22 @@ fn table_at(alloc: Global, aliased: &AliasedTables, place: usize) -> Result<Tabl
     }
 }
 
-// Tidies the table at an index.
-fn tidy_at(alloc: Global, aliased: &mut AliasedTables, place: usize) -> Result<Places, AllocError>
-    requires sound { AreSound aliased.old.tables }
-    requires within { place < length aliased.old.tables }
-    ensures applied { OnOk result ((table : Table) → slice_get aliased.old.tables place
-        ≡ Some table → aliased.new ≡ rule_applied TidyTable aliased.old table) }
-    ensures others { IfOk result (λ places. AreAlikeBut places aliased.old.tables
-        aliased.new.tables) }
-{
-    let places = one_place(alloc, place)?;
-    let table = table_at(alloc, aliased, place)?;
-    let tidied = tidied_table(alloc, table)?;
-    aliased.set(alloc, place, tidied)?;
-    Ok(places)
-}
-
-// Writes the table at an index as a constant.
-fn write_at<R: Row>(
+// Replaces the table at an index, and returns the list of that index.
+fn put_table(
     alloc: Global,
     aliased: &mut AliasedTables,
     place: usize,
+    table: Table,
 ) -> Result<Places, AllocError>
-    requires sound { AreSound aliased.old.tables }
-    requires within { place < length aliased.old.tables }
-    ensures applied { OnOk result ((table : Table) → slice_get aliased.old.tables place
-        ≡ Some table → aliased.new ≡ rule_applied WriteConstant aliased.old table) }
+    requires { place < length aliased.old.tables }
+    ensures put { OnOk result (aliased.new ≡ with_tables aliased.old
+        (slice_set aliased.old.tables place table)) }
     ensures others { IfOk result (λ places. AreAlikeBut places aliased.old.tables
         aliased.new.tables) }
 {
     let places = one_place(alloc, place)?;
-    let table = table_at(alloc, aliased, place)?;
-    match constant_written::<R>(alloc, table)? {
-        None => Ok(places),
-        Some(constant) => {
-            aliased.set(alloc, place, constant)?;
-            Ok(places)
-        }
-    }
+    aliased.set(alloc, place, table)?;
+    Ok(places)
 }
 
 // The table with a signal replaced by a bit or by another signal.
@@ -324,26 +302,6 @@ fn change_readers(
     let places = aliased.places(alloc, name)?;
     change_all(alloc, aliased, places.as_slice(), name, change)?;
     Ok(places)
-}
-
-// Propagates the constant at an index into the tables that read it.
-fn propagate_at(
-    alloc: Global,
-    aliased: &mut AliasedTables,
-    place: usize,
-) -> Result<Places, AllocError>
-    requires sound { AreSound aliased.old.tables }
-    requires within { place < length aliased.old.tables }
-    ensures applied { OnOk result ((table : Table) → slice_get aliased.old.tables place
-        ≡ Some table → aliased.new ≡ rule_applied PropagateConstant aliased.old table) }
-    ensures others { IfOk result (λ places. AreAlikeBut places aliased.old.tables
-        aliased.new.tables) }
-{
-    let table = table_at(alloc, aliased, place)?;
-    match written_bit(&table) {
-        None => Ok(Sequence::new(alloc)),
-        Some(bit) => change_readers(alloc, aliased, &table.output, &Change::Bit(bit)),
-    }
 }
 
 // The tables at some indices, each rewritten to read one signal instead of another.
@@ -441,30 +399,6 @@ fn rewire(
     change_readers(alloc, aliased, from, &Change::Input(to, inverts))
 }
 
-// Makes the fanouts of the table of one input at an index read that input instead.
-fn collapse_at(
-    alloc: Global,
-    aliased: &mut AliasedTables,
-    place: usize,
-) -> Result<Places, AllocError>
-    requires sound { AreSound aliased.old.tables }
-    requires within { place < length aliased.old.tables }
-    requires tidy { find (passes TidyTable aliased.old.tables) aliased.old.tables ≡ None }
-    ensures applied { OnOk result ((table : Table) → slice_get aliased.old.tables place
-        ≡ Some table → aliased.new ≡ rule_applied CollapseSingleInput aliased.old table) }
-    ensures others { IfOk result (λ places. AreAlikeBut places aliased.old.tables
-        aliased.new.tables) }
-{
-    let table = table_at(alloc, aliased, place)?;
-    match only_input(alloc, table.inputs.as_slice())? {
-        None => Ok(Sequence::new(alloc)),
-        Some(input) => {
-            let inverts = is_inverter(&table);
-            rewire(alloc, aliased, &table.output, input, inverts)
-        }
-    }
-}
-
 // Applies a rule at an index, and returns the indices of the tables that it rewrote.
 fn apply<R: Row>(
     alloc: Global,
@@ -481,11 +415,27 @@ fn apply<R: Row>(
     ensures others { IfOk result (λ places. AreAlikeBut places aliased.old.tables
         aliased.new.tables) }
 {
+    let table = table_at(alloc, aliased, place)?;
     match rule {
-        Rule::TidyTable => tidy_at(alloc, aliased, place),
-        Rule::WriteConstant => write_at::<R>(alloc, aliased, place),
-        Rule::PropagateConstant => propagate_at(alloc, aliased, place),
-        Rule::CollapseSingleInput => collapse_at(alloc, aliased, place),
+        Rule::TidyTable => {
+            let tidied = tidied_table(alloc, table)?;
+            put_table(alloc, aliased, place, tidied)
+        }
+        Rule::WriteConstant => match constant_written::<R>(alloc, table)? {
+            None => Ok(Sequence::new(alloc)),
+            Some(constant) => put_table(alloc, aliased, place, constant),
+        },
+        Rule::PropagateConstant => match written_bit(&table) {
+            None => Ok(Sequence::new(alloc)),
+            Some(bit) => change_readers(alloc, aliased, &table.output, &Change::Bit(bit)),
+        },
+        Rule::CollapseSingleInput => match only_input(alloc, table.inputs.as_slice())? {
+            None => Ok(Sequence::new(alloc)),
+            Some(input) => {
+                let inverts = is_inverter(&table);
+                rewire(alloc, aliased, &table.output, input, inverts)
+            }
+        },
     }
 }
 

@@ -14,6 +14,7 @@ ghost use Rattle.net_sweep.specs.Settled.{AreCandidates, HasLed};
 ghost use Rattle.net_sweep.specs.Latches.{left_at, with_latches, IsReady};
 
 use crate::latches::TrackedLatches;
+use crate::steps::Step;
 use circuit_model::Name;
 use net_wires::{AliasedTables, constant_table, is_among};
 use std::alloc::{AllocError, Global};
@@ -34,10 +35,11 @@ fn is_untaken(aliased: &AliasedTables, tracked: &TrackedLatches, name: &Name) ->
     !is_among(&tracked.leaves_read, name)
 }
 
-// Replaces the table at an index by the constant 0 if its signal evidently has no fanout.
-pub(crate) fn clear_fanout_free(
+// Replaces the table at which a step was taken by the constant 0 if its signal evidently has no
+// fanout any more.
+pub(crate) fn empty_at_step(
     alloc: Global,
-    place: usize,
+    step: Step,
     aliased: &mut AliasedTables,
     tracked: &TrackedLatches,
 ) -> Result<(), AllocError>
@@ -49,6 +51,9 @@ pub(crate) fn clear_fanout_free(
         → AreCandidates marks aliased.old.tables → AreCandidates marks aliased.new.tables) }
     ensures ready { OnOk result (IsReady tracked.now aliased.new) }
 {
+    let Step::Apply(_, place) = step else {
+        return Ok(());
+    };
     match aliased.table(alloc, place)? {
         None => Ok(()),
         Some(table) => {

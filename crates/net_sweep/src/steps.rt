@@ -3,20 +3,17 @@
 //!
 //! `next_step` finds the next step of `sweep_step` among these rules; `take_step` takes it, keeps
 //! the worklists complete, and its clause says that the result is exactly that step's circuit.
-//! `empty_at_step` may empty the table at which the step was taken, which changes no chain's end.
 
-ghost use Rattle.std.specs.Prelude.{◌≡◌, ℕ, Bool, ◌<◌, Some, None, find, slice_get, length, IfOk, OnOk};
+ghost use Rattle.std.specs.Prelude.{◌≡◌, ◌<◌, Some, None, find, slice_get, length, IfOk, OnOk};
 ghost use Rattle.circuit_model.specs.Soundness.{IsSound};
 ghost use Rattle.circuit_model.specs.declared.circuit.Table.{Table};
 ghost use Rattle.net_wires.specs.Rules.{sweep_step};
-ghost use Rattle.net_sweep.specs.declared.queues.Rule.{Rule};
 ghost use Rattle.net_sweep.specs.declared.queues.Rule.TheVariants.{TidyTable, CollapseSingleInput};
-ghost use Rattle.net_sweep.specs.Settled.{passes, rule_applied, is_candidate, AreCandidates, AreSound, HasLed};
+ghost use Rattle.net_sweep.specs.Settled.{passes, rule_applied, is_candidate, AreCandidates, AreSound};
 ghost use Rattle.net_sweep.specs.Latches.{left_at, with_latches, IsReady, IsNextStep};
 
 use crate::applying::{apply_rule, next_rule};
 use crate::fixing::{enqueue_all, fix};
-use crate::idle::clear_fanout_free;
 use crate::latches::{TrackedLatches, next_fixed};
 use crate::queues::{Candidates, Rule};
 use cube_cover::Row;
@@ -112,26 +109,5 @@ pub(crate) fn take_step<R: Row>(
             apply_to_tables::<R>(alloc, rule, place, aliased, candidates, tracked)
         }
         Step::Fix(place, bit) => fix(alloc, place, bit, aliased, candidates, tracked),
-    }
-}
-
-// Empties the table at which the step was taken if its signal has no fanout any more.
-pub(crate) fn empty_at_step(
-    alloc: Global,
-    step: Step,
-    aliased: &mut AliasedTables,
-    tracked: &TrackedLatches,
-) -> Result<(), AllocError>
-    requires sound { IsSound (with_latches aliased.old (left_at tracked.now.slots.items)) }
-    requires ready { IsReady tracked.now aliased.old }
-    ensures led { OnOk result (HasLed (with_latches aliased.old (left_at tracked.now.slots.items))
-        (with_latches aliased.new (left_at tracked.now.slots.items))) }
-    ensures candidates { OnOk result ((marks : Rule → ℕ → Bool)
-        → AreCandidates marks aliased.old.tables → AreCandidates marks aliased.new.tables) }
-    ensures ready { OnOk result (IsReady tracked.now aliased.new) }
-{
-    match step {
-        Step::Apply(_, place) => clear_fanout_free(alloc, place, aliased, tracked),
-        Step::Fix(_, _) => Ok(()),
     }
 }

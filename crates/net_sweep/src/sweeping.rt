@@ -19,9 +19,10 @@ ghost use Rattle.net_sweep.specs.Latches.{left_at, with_latches, IsReady, IsNext
 ghost use Rattle.net_sweep.specs.declared.sweeping.SweepFault.TheVariants.{Memory};
 
 use crate::counting::{count_undriven, outputs};
+use crate::idle::empty_at_step;
 use crate::latches::TrackedLatches;
 use crate::queues::{Candidates, all_candidates};
-use crate::steps::{empty_at_step, next_step, take_step};
+use crate::steps::{next_step, take_step};
 use crate::tracking::{tracked_latches, with_tracked_latches};
 use circuit_model::{Circuit, Name};
 use cube_cover::Row;
