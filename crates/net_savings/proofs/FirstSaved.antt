@@ -2,7 +2,6 @@
 -- next.
 use Rattle.std.proofs.Common.{◌≡◌, ◌↔◌, ℕ, ◌+◌, ◌<◌, ◌≤◌, ◌==◌, zero, suc, true, false, Option, Some, None, List, [], ◌∷◌, length, take, get_or, slice_get, refl, sym, ap, ◌∙◌, subst, inl, inr, arith}
 use Rattle.std.specs.Prelude.{unwrap_or}
-use Rattle.std.specs.Global.{Vec}
 use Rattle.std.specs.List.{list_any, AllByRecursion}
 use Rattle.std.proofs.lemmas.Bool.{false≢true, or_cases, or_left, or_right, eq-eqb}
 use Rattle.circuit_model.specs.Soundness.{given, IsSound}
@@ -50,16 +49,16 @@ cover_any cover (first ∷ covers) m = elim m as (λ _. list_any (cover_eq cover
   | inr k ↦ or_right (cover_eq cover first) (list_any (cover_eq cover) covers) (cover_any cover covers k)
 ]
 
-pub held_in : (own : List (Option (Vec NamedCover))) (place : ℕ) (cover : NamedCover) → held_at (slice_get own place) cover ≡ true → IsIn own place cover
+pub held_in : (own : List (Option (List NamedCover))) (place : ℕ) (cover : NamedCover) → held_at (slice_get own place) cover ≡ true → IsIn own place cover
 held_in own place cover h = cases (slice_get own place) refl h
   where
-    cases : (o : Option (Option (Vec NamedCover))) → slice_get own place ≡ o → held_at o cover ≡ true → IsIn own place cover
+    cases : (o : Option (Option (List NamedCover))) → slice_get own place ≡ o → held_at o cover ≡ true → IsIn own place cover
     cases None e h = absurd (false≢true h)
     cases (Some None) e h = absurd (false≢true h)
-    cases (Some (Some covers)) e h = (covers, e, any_cover cover covers.items h)
+    cases (Some (Some covers)) e h = (covers, e, any_cover cover covers h)
 
-pub in_held : (own : List (Option (Vec NamedCover))) (place : ℕ) (cover : NamedCover) → held_at (slice_get own place) cover ≡ false → IsIn own place cover → ⊥
-in_held own place cover h (covers, e, m) = false≢true (sym h ∙ (ap (λ (o : Option (Option (Vec NamedCover))). held_at o cover) e ∙ cover_any cover covers.items m))
+pub in_held : (own : List (Option (List NamedCover))) (place : ℕ) (cover : NamedCover) → held_at (slice_get own place) cover ≡ false → IsIn own place cover → ⊥
+in_held own place cover h (covers, e, m) = false≢true (sym h ∙ (ap (λ (o : Option (Option (List NamedCover))). held_at o cover) e ∙ cover_any cover covers m))
 
 -- ---- candidates are exactly the covers in the lists
 
@@ -73,12 +72,12 @@ place_of (Some first ∷ slots) table m = elim m as (λ _. (at : ℕ) × (table_
   | inr k ↦ (let (at, e) = place_of slots table k in (suc at, e))
 ]
 
-module _ (rule : Rule) (now : Placed) (sound : IsSound (circuit_of now)) (own : List (Option (Vec NamedCover))) (lists : AreKept rule now.slots own) where
+module _ (rule : Rule) (now : Placed) (sound : IsSound (circuit_of now)) (own : List (Option (List NamedCover))) (lists : AreKept rule now.slots own) where
   -- a cover in a list is a candidate
   pub in_candidate : (place : ℕ) (cover : NamedCover) → IsIn own place cover → IsCandidate rule (standing now.slots) cover
   in_candidate place cover (covers, there, m) = cases (table_at now.slots place) refl (lists.each place covers there)
     where
-      cases : (o : Option Table) → table_at now.slots place ≡ o → AreOwn rule o covers.items → IsCandidate rule (standing now.slots) cover
+      cases : (o : Option Table) → table_at now.slots place ≡ o → AreOwn rule o covers → IsCandidate rule (standing now.slots) cover
       cases None e h = absurd (subst (λ (cs : List NamedCover). Has cover cs) h m)
       cases (Some table) e h = own_candidate rule (standing now.slots) table cover (stands now.slots place table e) ((h.1 cover).0 m)
 
@@ -89,14 +88,14 @@ module _ (rule : Rule) (now : Placed) (sound : IsSound (circuit_of now)) (own : 
     own_in table cover among is =
         let (place, there) = place_of now.slots table among in
         let (covers, e) = listed place table there in
-        let own_is : AreOwn rule (Some table) covers.items = subst (λ (o : Option Table). AreOwn rule o covers.items) there (lists.each place covers e) in
+        let own_is : AreOwn rule (Some table) covers = subst (λ (o : Option Table). AreOwn rule o covers) there (lists.each place covers e) in
         let reader = all_at (IsReader (given (circuit_of now))) now.slots (tables_read (circuit_of now) sound) place table there in
         (place, (there, own_over rule table cover reader.once is), (covers, e, (own_is.1 cover).1 is))
 
     pub all_listable : AllByRecursion (IsListable rule) (standing now.slots)
     all_listable = all_standing (IsListable rule) now.slots (λ place table there.
         let (covers, e) = listed place table there in
-        let own_is : AreOwn rule (Some table) covers.items = subst (λ (o : Option Table). AreOwn rule o covers.items) there (lists.each place covers e) in
+        let own_is : AreOwn rule (Some table) covers = subst (λ (o : Option Table). AreOwn rule o covers) there (lists.each place covers e) in
         own_is.0)
 
     -- candidates that rows do not share are the covers in a list at one of some indices, which
@@ -128,7 +127,7 @@ place_among (first ∷ places) zero below = or_left (first == first) (is_in plac
 place_among (first ∷ places) (suc i) below = or_right (first == get_or places i 0) (is_in places (get_or places i 0)) (place_among places i (omega (arith, below)))
 
 -- one more index
-pub not_in_next : (own : List (Option (Vec NamedCover))) (cover : NamedCover) (places : List ℕ) (i place d : ℕ) → i < length places → place ≡ get_or places i d
+pub not_in_next : (own : List (Option (List NamedCover))) (cover : NamedCover) (places : List ℕ) (i place d : ℕ) → i < length places → place ≡ get_or places i d
     → ((at : ℕ) → is_in (take i places) at ≡ true → IsIn own at cover → ⊥) → (IsIn own place cover → ⊥) → (at : ℕ) → is_in (take (i + 1) places) at ≡ true → IsIn own at cover → ⊥
 not_in_next own cover places i place d below is before here at h =
     elim (in_next places i place d at below is h) as (λ _. IsIn own at cover → ⊥) [
@@ -138,7 +137,7 @@ not_in_next own cover places i place d below is before here at h =
 
 -- ---- the best
 
-module _ (rule : Rule) (now : Placed) (name : List ℕ) (sound : IsSound (circuit_of now)) (new : IsNewName (circuit_of now) name) (known : KnownCovers) (own : List (Option (Vec NamedCover)))
+module _ (rule : Rule) (now : Placed) (name : List ℕ) (sound : IsSound (circuit_of now)) (new : IsNewName (circuit_of now) name) (known : KnownCovers) (own : List (Option (List NamedCover)))
     (notes : AreNotes rule now (saving_in known) (covers_under known) own [] []) where
   abbrev pub Passes : NamedCover → Type 0
   Passes cover = IsCandidate rule (standing now.slots) cover

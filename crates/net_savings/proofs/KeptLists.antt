@@ -1,6 +1,5 @@
 -- What tables give by themselves, kept while tables are added and change.
 use Rattle.std.proofs.Common.{◌≡◌, ℕ, ◌<◌, zero, suc, Option, Some, None, List, [], ◌∷◌, ◌++◌, length, set, slice_get, refl, sym, ap, subst, arith}
-use Rattle.std.specs.Global.{Vec}
 use Rattle.std.proofs.lemmas.List.{length-set, length-append}
 use Rattle.std.proofs.lemmas.Option.{none-some, same_Some}
 use Rattle.circuit_model.specs.declared.circuit.Table.{Table}
@@ -11,7 +10,7 @@ use Rattle.net_work.specs.Placed.{joined, table_at}
 use Rattle.net_savings.specs.Listing.{AreKept, AreOwn}
 
 -- what is left after an index is cleared
-pub cleared : (lists : List (Option (Vec NamedCover))) (place at : ℕ) (covers : Vec NamedCover) → slice_get (set lists place None) at ≡ Some (Some covers)
+pub cleared : (lists : List (Option (List NamedCover))) (place at : ℕ) (covers : List NamedCover) → slice_get (set lists place None) at ≡ Some (Some covers)
     → (slice_get lists at ≡ Some (Some covers)) × (at ≡ place → ⊥)
 cleared [] place at covers e = absurd (none-some (Some covers) e)
 cleared (first ∷ lists) zero zero covers e = absurd (none-some covers (same_Some None (Some covers) e))
@@ -31,7 +30,7 @@ before [] slot at below = absurd (omega (arith, below))
 before (first ∷ slots) slot zero below = refl
 before (first ∷ slots) slot (suc at) below = before slots slot at (omega (arith, below))
 
-module _ (rule : Rule) (slots : List (Option Table)) (lists : List (Option (Vec NamedCover))) (kept : AreKept rule slots lists) where
+module _ (rule : Rule) (slots : List (Option Table)) (lists : List (Option (List NamedCover))) (kept : AreKept rule slots lists) where
   pub kept_set : (place : ℕ) (slot : Option Table) → AreKept rule (set slots place slot) (set lists place None)
   kept_set place slot = record {
     long = (let long : length (set lists place None) ≡ length lists = length-set lists place None in
@@ -39,7 +38,7 @@ module _ (rule : Rule) (slots : List (Option Table)) (lists : List (Option (Vec 
         omega (arith, long, other, kept.long));
     each = λ at covers e.
         (let left = cleared lists place at covers e in
-        subst (λ (s : Option Table). AreOwn rule s covers.items) (sym (ap joined (get_set_other slots place at slot left.1))) (kept.each at covers left.0));
+        subst (λ (s : Option Table). AreOwn rule s covers) (sym (ap joined (get_set_other slots place at slot left.1))) (kept.each at covers left.0));
   }
 
   pub kept_push : (slot : Option Table) → AreKept rule (slots ++ slot ∷ []) lists
@@ -47,5 +46,5 @@ module _ (rule : Rule) (slots : List (Option Table)) (lists : List (Option (Vec 
     long = omega (arith, kept.long, length-append slots (slot ∷ []));
     each = λ at covers e.
         (let below : at < length lists = within lists at (Some covers) e in
-        subst (λ (s : Option Table). AreOwn rule s covers.items) (sym (before slots slot at (omega (arith, below, kept.long)))) (kept.each at covers e));
+        subst (λ (s : Option Table). AreOwn rule s covers) (sym (before slots slot at (omega (arith, below, kept.long)))) (kept.each at covers e));
   }

@@ -20,3 +20,4 @@ pub mod NotesKept
 pub mod FirstSaved
 pub mod SameCovers
 pub mod Best
+pub mod CoverSets

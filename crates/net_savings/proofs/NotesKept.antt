@@ -1,6 +1,5 @@
 -- The savings of candidates, kept while tables are added and change.
 use Rattle.std.proofs.Common.{◌≡◌, ◌||◌, ℕ, ◌+◌, ◌<◌, ◌==◌, zero, suc, Bool, true, false, Option, Some, None, List, [], ◌∷◌, ◌++◌, length, get_or, take, set, slice_get, bytes_eq, if◌then◌else◌, refl, sym, ap, ap₂, ◌∙◌, subst, inl, inr, arith}
-use Rattle.std.specs.Global.{Vec}
 use Rattle.std.proofs.lemmas.Bool.{false≢true, eq-eqb, or_parts, or_cases, or_left, or_right, cases_lt}
 use Rattle.std.proofs.lemmas.List.{length-set, length-append}
 use Rattle.std.proofs.lemmas.List.Folds.{list_any-append}
@@ -33,13 +32,13 @@ not_pushed (first ∷ places) place at h =
     none false b h k = k
 
 -- the items of a list with one more
-pub pushed_some : (own : List (Option (Vec NamedCover))) (at : ℕ) (covers : Vec NamedCover) → slice_get (own ++ None ∷ []) at ≡ Some (Some covers) → slice_get own at ≡ Some (Some covers)
+pub pushed_some : (own : List (Option (List NamedCover))) (at : ℕ) (covers : List NamedCover) → slice_get (own ++ None ∷ []) at ≡ Some (Some covers) → slice_get own at ≡ Some (Some covers)
 pushed_some [] zero covers e = absurd (none-some covers (same_Some None (Some covers) e))
 pushed_some [] (suc at) covers e = absurd (none-some (Some covers) e)
 pushed_some (first ∷ own) zero covers e = e
 pushed_some (first ∷ own) (suc at) covers e = pushed_some own at covers e
 
-stays_some : (own : List (Option (Vec NamedCover))) (at : ℕ) (covers : Vec NamedCover) → slice_get own at ≡ Some (Some covers) → slice_get (own ++ None ∷ []) at ≡ Some (Some covers)
+stays_some : (own : List (Option (List NamedCover))) (at : ℕ) (covers : List NamedCover) → slice_get own at ≡ Some (Some covers) → slice_get (own ++ None ∷ []) at ≡ Some (Some covers)
 stays_some [] at covers e = absurd (none-some (Some covers) e)
 stays_some (first ∷ own) zero covers e = e
 stays_some (first ∷ own) (suc at) covers e = stays_some own at covers e
@@ -107,7 +106,7 @@ names_away names i one d query below is before apart = cases (has (take (i + 1) 
     ]
 
 -- more names may be touched
-notes_more : (rule : Rule) (now : Placed) (saving : NamedCover → Option ℕ) (under : List ℕ → List NamedCover) (own : List (Option (Vec NamedCover))) (touched more : List (List ℕ)) (fresh : List ℕ)
+notes_more : (rule : Rule) (now : Placed) (saving : NamedCover → Option ℕ) (under : List ℕ → List NamedCover) (own : List (Option (List NamedCover))) (touched more : List (List ℕ)) (fresh : List ℕ)
     → ((name : List ℕ) → has more name ≡ false → has touched name ≡ false) → AreNotes rule now saving under own touched fresh → AreNotes rule now saving under own more fresh
 notes_more rule now saving under own touched more fresh fewer notes = record {
   found = notes.found;
@@ -119,7 +118,7 @@ notes_more rule now saving under own touched more fresh fewer notes = record {
   listed = notes.listed;
 }
 
-module _ (rule : Rule) (now : Placed) (saving : NamedCover → Option ℕ) (under : List ℕ → List NamedCover) (own : List (Option (Vec NamedCover))) (touched : List (List ℕ)) (fresh : List ℕ)
+module _ (rule : Rule) (now : Placed) (saving : NamedCover → Option ℕ) (under : List ℕ → List NamedCover) (own : List (Option (List NamedCover))) (touched : List (List ℕ)) (fresh : List ℕ)
     (notes : AreNotes rule now saving under own touched fresh) where
   pub notes_set : (place : ℕ) (old new : Table) → table_at now.slots place ≡ Some old → new.output ≡ old.output
       → AreNotes rule (with_slot now place (Some new)) saving under (set own place None) (touched ++ (old.inputs ++ new.inputs)) (fresh ++ place ∷ [])
@@ -167,14 +166,14 @@ module _ (rule : Rule) (now : Placed) (saving : NamedCover → Option ℕ) (unde
         (covers, stays_some own at covers is));
   }
     where
-      before_last : (at : ℕ) (covers : Vec NamedCover) → slice_get own at ≡ Some (Some covers) → table_at (now.slots ++ Some new ∷ []) at ≡ table_at now.slots at
+      before_last : (at : ℕ) (covers : List NamedCover) → slice_get own at ≡ Some (Some covers) → table_at (now.slots ++ Some new ∷ []) at ≡ table_at now.slots at
       before_last at covers e = let below : at < length own = within own at (Some covers) e in before now.slots (Some new) at (omega (arith, below, notes.lists.long))
 
-  pub notes_touched : (new_own : List (Option (Vec NamedCover))) (one two before_names now_names : List (List ℕ)) (new_fresh : List ℕ) (place : ℕ) → new_own ≡ set own place None
+  pub notes_touched : (new_own : List (Option (List NamedCover))) (one two before_names now_names : List (List ℕ)) (new_fresh : List ℕ) (place : ℕ) → new_own ≡ set own place None
       → IsUnion touched before_names one → IsUnion one now_names two → new_fresh ≡ fresh ++ place ∷ [] → (old new : Table) → table_at now.slots place ≡ Some old → new.output ≡ old.output
       → before_names ≡ old.inputs → now_names ≡ new.inputs → AreNotes rule (with_slot now place (Some new)) saving under new_own two new_fresh
   notes_touched new_own one two before_names now_names new_fresh place own_is one_is two_is fresh_is old new there same old_is new_is =
-      subst (λ (o : List (Option (Vec NamedCover))). AreNotes rule (with_slot now place (Some new)) saving under o two new_fresh) (sym own_is)
+      subst (λ (o : List (Option (List NamedCover))). AreNotes rule (with_slot now place (Some new)) saving under o two new_fresh) (sym own_is)
       (subst (λ (places : List ℕ). AreNotes rule (with_slot now place (Some new)) saving under (set own place None) two places) (sym fresh_is)
       (notes_more rule (with_slot now place (Some new)) saving under (set own place None) (touched ++ (old.inputs ++ new.inputs)) two (fresh ++ place ∷ [])
       (λ name away.
@@ -184,10 +183,10 @@ module _ (rule : Rule) (now : Placed) (saving : NamedCover → Option ℕ) (unde
       (neither old.inputs new.inputs name (subst (λ (names : List (List ℕ)). has names name ≡ false) old_is first.1) (subst (λ (names : List (List ℕ)). has names name ≡ false) new_is second.1))))
       (notes_set place old new there same)))
 
-  pub notes_pushed : (new_own : List (Option (Vec NamedCover))) (names inputs : List (List ℕ)) (new_fresh : List ℕ) (long : ℕ) (new : Table) → new_own ≡ own ++ None ∷ [] → IsUnion touched inputs names → inputs ≡ new.inputs
+  pub notes_pushed : (new_own : List (Option (List NamedCover))) (names inputs : List (List ℕ)) (new_fresh : List ℕ) (long : ℕ) (new : Table) → new_own ≡ own ++ None ∷ [] → IsUnion touched inputs names → inputs ≡ new.inputs
       → new_fresh ≡ fresh ++ long ∷ [] → long ≡ length now.slots → AreNotes rule (with_last now new) saving under new_own names new_fresh
   notes_pushed new_own names inputs new_fresh long new own_is names_is inputs_is fresh_is long_is =
-      subst (λ (o : List (Option (Vec NamedCover))). AreNotes rule (with_last now new) saving under o names new_fresh) (sym own_is)
+      subst (λ (o : List (Option (List NamedCover))). AreNotes rule (with_last now new) saving under o names new_fresh) (sym own_is)
       (subst (λ (places : List ℕ). AreNotes rule (with_last now new) saving under (own ++ None ∷ []) names places) (sym (fresh_is ∙ ap (λ (n : ℕ). fresh ++ n ∷ []) long_is))
       (notes_more rule (with_last now new) saving under (own ++ None ∷ []) (touched ++ new.inputs) names (fresh ++ length now.slots ∷ [])
       (λ name away.
@@ -196,9 +195,9 @@ module _ (rule : Rule) (now : Placed) (saving : NamedCover → Option ℕ) (unde
       (notes_add new)))
 
 -- no saving is set, and all indices are fresh
-pub notes_begin : (rule : Rule) (now : Placed) (saving : NamedCover → Option ℕ) (under : List ℕ → List NamedCover) (own : List (Option (Vec NamedCover))) (fresh : List ℕ)
+pub notes_begin : (rule : Rule) (now : Placed) (saving : NamedCover → Option ℕ) (under : List ℕ → List NamedCover) (own : List (Option (List NamedCover))) (fresh : List ℕ)
     → ((cover : NamedCover) → saving cover ≡ None) → ((name : List ℕ) → under name ≡ []) → length own ≡ length now.slots
-    → ((at : ℕ) (covers : Vec NamedCover) → slice_get own at ≡ Some (Some covers) → ⊥) → ((at : ℕ) → at < length now.slots → is_in fresh at ≡ true)
+    → ((at : ℕ) (covers : List NamedCover) → slice_get own at ≡ Some (Some covers) → ⊥) → ((at : ℕ) → at < length now.slots → is_in fresh at ≡ true)
     → AreNotes rule now saving under own [] fresh
 notes_begin rule now saving under own fresh nothing none long empty all = record {
   found = record {

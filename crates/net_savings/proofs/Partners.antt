@@ -1,7 +1,6 @@
 -- The tables whose rows may share two literals with rows of a given one, and what is listed of what
 -- they share.
 use Rattle.std.proofs.Common.{◌≡◌, ◌⊎◌, ℕ, ◌+◌, ◌<◌, ◌≤◌, eqb, eqb-true, true, false, Option, Some, None, List, [], ◌∷◌, ◌++◌, flat_map, length, take, get_or, bytes_eq, refl, sym, ap, ◌∙◌, subst, inl, inr, arith}
-use Rattle.std.specs.Global.{Vec}
 use Rattle.std.proofs.lemmas.Bool.{or_cases, or_left, or_right, false≢true}
 use Rattle.std.proofs.lemmas.List.{take_more}
 use Rattle.std.proofs.lemmas.Bool.{eq-eqb}
@@ -76,7 +75,7 @@ in_right (first ∷ places) more at h = or_right (eqb first at) (is_in (places +
 
 -- ---- those of some indices that are listed
 
-abbrev pub HaveListed : List (Option (Vec NamedCover)) → List ℕ → List ℕ → Type 0
+abbrev pub HaveListed : List (Option (List NamedCover)) → List ℕ → List ℕ → Type 0
 HaveListed own places listed = (at : ℕ) → is_in places at ≡ true → IsListed own at → is_in listed at ≡ true
 
 place_last : (places : List ℕ) (last at : ℕ) → is_in (places ++ last ∷ []) at ≡ true → (is_in places at ≡ true) ⊎ (last ≡ at)
@@ -92,7 +91,7 @@ next_place : (places : List ℕ) (i last d at : ℕ) → i < length places → l
 next_place places i last d at below is h =
     place_last (take i places) last at (subst (λ (ps : List ℕ). is_in ps at ≡ true) (take_more places i d below ∙ ap (λ (n : ℕ). take i places ++ n ∷ []) (sym is)) h)
 
-pub listed_left : (own : List (Option (Vec NamedCover))) (places : List ℕ) (i last d : ℕ) (listed : List ℕ) → i < length places → last ≡ get_or places i d → (IsListed own last → ⊥)
+pub listed_left : (own : List (Option (List NamedCover))) (places : List ℕ) (i last d : ℕ) (listed : List ℕ) → i < length places → last ≡ get_or places i d → (IsListed own last → ⊥)
     → HaveListed own (take i places) listed → HaveListed own (take (i + 1) places) listed
 listed_left own places i last d listed below is apart before at h k =
     elim (next_place places i last d at below is h) as (λ _. is_in listed at ≡ true) [
@@ -100,7 +99,7 @@ listed_left own places i last d listed below is apart before at h k =
       | inr e ↦ absurd (apart (subst (λ (n : ℕ). IsListed own n) (sym e) k))
     ]
 
-pub listed_more : (own : List (Option (Vec NamedCover))) (places : List ℕ) (i last d : ℕ) (listed new : List ℕ) → i < length places → last ≡ get_or places i d → new ≡ listed ++ last ∷ []
+pub listed_more : (own : List (Option (List NamedCover))) (places : List ℕ) (i last d : ℕ) (listed new : List ℕ) → i < length places → last ≡ get_or places i d → new ≡ listed ++ last ∷ []
     → HaveListed own (take i places) listed → HaveListed own (take (i + 1) places) new
 listed_more own places i last d listed new below is put before at h k =
     ap (λ (ps : List ℕ). is_in ps at) put
@@ -111,7 +110,7 @@ listed_more own places i last d listed new below is put before at h k =
 
 -- nothing else
 
-abbrev pub AreListedOf : List (Option (Vec NamedCover)) → List ℕ → List ℕ → Type 0
+abbrev pub AreListedOf : List (Option (List NamedCover)) → List ℕ → List ℕ → Type 0
 AreListedOf own places listed = (at : ℕ) → is_in listed at ≡ true → (is_in places at ≡ true) × IsListed own at
 
 next_in : (places : List ℕ) (i last d at : ℕ) → i < length places → last ≡ get_or places i d → (is_in (take i places) at ≡ true) ⊎ (last ≡ at) → is_in (take (i + 1) places) at ≡ true
@@ -122,11 +121,11 @@ next_in places i last d at below is k =
       | inr e ↦ in_right (take i places) (last ∷ []) at (or_left (eqb last at) false (eq-eqb last at e))
     ])
 
-pub only_left : (own : List (Option (Vec NamedCover))) (places : List ℕ) (i last d : ℕ) (listed : List ℕ) → i < length places → last ≡ get_or places i d
+pub only_left : (own : List (Option (List NamedCover))) (places : List ℕ) (i last d : ℕ) (listed : List ℕ) → i < length places → last ≡ get_or places i d
     → AreListedOf own (take i places) listed → AreListedOf own (take (i + 1) places) listed
 only_left own places i last d listed below is before at h = let p = before at h in (next_in places i last d at below is (inl p.0), p.1)
 
-pub only_more : (own : List (Option (Vec NamedCover))) (places : List ℕ) (i last d : ℕ) (listed new : List ℕ) → i < length places → last ≡ get_or places i d → IsListed own last → new ≡ listed ++ last ∷ []
+pub only_more : (own : List (Option (List NamedCover))) (places : List ℕ) (i last d : ℕ) (listed new : List ℕ) → i < length places → last ≡ get_or places i d → IsListed own last → new ≡ listed ++ last ∷ []
     → AreListedOf own (take i places) listed → AreListedOf own (take (i + 1) places) new
 only_more own places i last d listed new below is there put before at h =
     elim (place_last listed last at (sym (ap (λ (ps : List ℕ). is_in ps at) put) ∙ h)) as (λ _. (is_in (take (i + 1) places) at ≡ true) × IsListed own at) [
@@ -202,7 +201,7 @@ shared_none Gkx slots one other cover none k = k
 shared_none Gcx slots one other cover none k =
     none_share one other (table_at slots other) cover (subst (λ (slot : Option Table). AreSharers one other slot (table_at slots other) cover) (none refl) k)
 
-pub none_here : (rule : Rule) (slots : List (Option Table)) (own : List (Option (Vec NamedCover))) (place : ℕ) (covers : List NamedCover) → covers ≡ [] → (rule ≡ Gcx → table_at slots place ≡ None)
+pub none_here : (rule : Rule) (slots : List (Option Table)) (own : List (Option (List NamedCover))) (place : ℕ) (covers : List NamedCover) → covers ≡ [] → (rule ≡ Gcx → table_at slots place ≡ None)
     → AreSharedHere rule slots own place covers
 none_here rule slots own place covers e none = record {
   some = λ cover m. absurd (subst (λ (cs : List NamedCover). Has cover cs) e m);

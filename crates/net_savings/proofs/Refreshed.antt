@@ -1,7 +1,6 @@
 -- The savings of candidates are recomputed where changes touched them, and all of them are exact
 -- then.
 use Rattle.std.proofs.Common.{◌≡◌, ◌⊎◌, ℕ, ◌+◌, ◌<◌, ◌≤◌, zero, suc, Bool, true, false, Option, Some, None, List, [], ◌∷◌, ◌++◌, map, length, take, get_or, set, slice_get, refl, sym, ap, ◌∙◌, subst, inl, inr, arith, bytes_eq, ◌==◌}
-use Rattle.std.specs.Global.{Vec}
 use Rattle.std.proofs.lemmas.Bool.{false≢true, or_cases, or_left, or_right, eqb-true, cases_eq}
 use Rattle.std.proofs.lemmas.List.{length-set, take_more}
 use Rattle.std.proofs.lemmas.List.Sums.{sum_by-cons}
@@ -132,7 +131,7 @@ module _ (placed : Placed) (old new : KnownCovers) (grown : IsGrown placed old n
 
 -- ---- lists
 
-got_set : (own : List (Option (Vec NamedCover))) (place at : ℕ) (covers others : Vec NamedCover) → slice_get (set own place (Some covers)) at ≡ Some (Some others)
+got_set : (own : List (Option (List NamedCover))) (place at : ℕ) (covers others : List NamedCover) → slice_get (set own place (Some covers)) at ≡ Some (Some others)
     → (slice_get own at ≡ Some (Some others)) ⊎ ((at ≡ place) × (covers ≡ others))
 got_set [] place at covers others e = absurd (none-some (Some others) e)
 got_set (first ∷ own) zero zero covers others e = inr (refl, same_Some covers others (same_Some (Some covers) (Some others) e))
@@ -141,27 +140,27 @@ got_set (first ∷ own) (suc place) zero covers others e = inl e
 got_set (first ∷ own) (suc place) (suc at) covers others e =
     elim (got_set own place at covers others e) as (λ _. (slice_get own at ≡ Some (Some others)) ⊎ ((suc at ≡ suc place) × (covers ≡ others))) [ inl k ↦ inl k | inr p ↦ inr (ap suc p.0, p.1) ]
 
-pub list_stays : (own : List (Option (Vec NamedCover))) (place at : ℕ) (covers : Vec NamedCover) → IsListed own at → IsListed (set own place (Some covers)) at
+pub list_stays : (own : List (Option (List NamedCover))) (place at : ℕ) (covers : List NamedCover) → IsListed own at → IsListed (set own place (Some covers)) at
 list_stays [] place at covers listed = listed
 list_stays (first ∷ own) zero zero covers listed = (covers, refl)
 list_stays (first ∷ own) zero (suc at) covers listed = listed
 list_stays (first ∷ own) (suc place) zero covers listed = listed
 list_stays (first ∷ own) (suc place) (suc at) covers listed = list_stays own place at covers listed
 
-pub list_here : (own : List (Option (Vec NamedCover))) (place : ℕ) (covers : Vec NamedCover) → place < length own → IsListed (set own place (Some covers)) place
+pub list_here : (own : List (Option (List NamedCover))) (place : ℕ) (covers : List NamedCover) → place < length own → IsListed (set own place (Some covers)) place
 list_here [] place covers below = absurd (omega (arith, below))
 list_here (first ∷ own) zero covers below = (covers, refl)
 list_here (first ∷ own) (suc place) covers below = list_here own place covers (omega (arith, below))
 
 -- what is listed after one more index is
-listed_was : (own : List (Option (Vec NamedCover))) (place at : ℕ) (covers : Vec NamedCover) → IsListed (set own place (Some covers)) at → IsListed own at ⊎ (at ≡ place)
+listed_was : (own : List (Option (List NamedCover))) (place at : ℕ) (covers : List NamedCover) → IsListed (set own place (Some covers)) at → IsListed own at ⊎ (at ≡ place)
 listed_was own place at covers (others, e) =
     elim (got_set own place at covers others e) as (λ _. IsListed own at ⊎ (at ≡ place)) [ inl k ↦ inl (others, k) | inr p ↦ inr p.0 ]
 
 -- an index is added to those that are listed, and the savings are set of what its table gives by
 -- itself, and together with the listed ones and with itself
-module _ (rule : Rule) (placed : Placed) (known new : KnownCovers) (own : List (Option (Vec NamedCover))) (place : ℕ) (covers : Vec NamedCover) (together : List NamedCover) (is : AreTrue rule placed known own)
-    (grown : IsGrown placed known new) (made : AreOwn rule (table_at placed.slots place) covers.items) (noted : (cover : NamedCover) → Has cover covers.items → IsNoted (saving_in new) cover)
+module _ (rule : Rule) (placed : Placed) (known new : KnownCovers) (own : List (Option (List NamedCover))) (place : ℕ) (covers : List NamedCover) (together : List NamedCover) (is : AreTrue rule placed known own)
+    (grown : IsGrown placed known new) (made : AreOwn rule (table_at placed.slots place) covers) (noted : (cover : NamedCover) → Has cover covers → IsNoted (saving_in new) cover)
     (shared : AreSharedHere rule placed.slots own place together) (noted_together : (cover : NamedCover) → Has cover together → IsNoted (saving_in new) cover) where
   -- of two listed indices the second is the new one
   with_place : (one : ℕ) (cover : NamedCover) → IsListed own one ⊎ (one ≡ place) → IsSharedBy rule placed.slots one place cover → IsNoted (saving_in new) cover
@@ -186,25 +185,25 @@ module _ (rule : Rule) (placed : Placed) (known new : KnownCovers) (own : List (
     lists = record {
       long = (let long : length (set own place (Some covers)) ≡ length own = length-set own place (Some covers) in omega (arith, long, is.lists.long));
       each = λ at others e.
-          elim (got_set own place at covers others e) as (λ _. AreOwn rule (table_at placed.slots at) others.items) [
+          elim (got_set own place at covers others e) as (λ _. AreOwn rule (table_at placed.slots at) others) [
             | inl k ↦ is.lists.each at others k
-            | inr p ↦ subst (λ (n : ℕ). AreOwn rule (table_at placed.slots n) others.items) (sym p.0) (subst (λ (c : Vec NamedCover). AreOwn rule (table_at placed.slots place) c.items) p.1 made)
+            | inr p ↦ subst (λ (n : ℕ). AreOwn rule (table_at placed.slots n) others) (sym p.0) (subst (λ (c : List NamedCover). AreOwn rule (table_at placed.slots place) c) p.1 made)
           ];
     };
     long = length-set own place (Some covers) ∙ is.long;
     noted = λ at others e cover m.
         elim (got_set own place at covers others e) as (λ _. IsNoted (saving_in new) cover) [
           | inl k ↦ grown.noted cover (is.noted at others k cover m)
-          | inr p ↦ noted cover (subst (λ (c : Vec NamedCover). Has cover c.items) (sym p.1) m)
+          | inr p ↦ noted cover (subst (λ (c : List NamedCover). Has cover c) (sym p.1) m)
         ];
     shared = λ one other cover first second by. together_noted one other cover (listed_was own place one covers first) (listed_was own place other covers second) by;
   }
 
-  pub true_put : (new_own : List (Option (Vec NamedCover))) → new_own ≡ set own place (Some covers) → AreTrue rule placed new new_own
+  pub true_put : (new_own : List (Option (List NamedCover))) → new_own ≡ set own place (Some covers) → AreTrue rule placed new new_own
   true_put new_own own_is = subst (AreTrue rule placed new) (sym own_is) true_set
 
 -- one more index is listed
-pub listed_next : (now : Placed) (own new_own : List (Option (Vec NamedCover))) (places : List ℕ) (i place d : ℕ) → i < length places → place ≡ get_or places i d → ((at : ℕ) → IsListed own at → IsListed new_own at)
+pub listed_next : (now : Placed) (own new_own : List (Option (List NamedCover))) (places : List ℕ) (i place d : ℕ) → i < length places → place ≡ get_or places i d → ((at : ℕ) → IsListed own at → IsListed new_own at)
     → (place < length now.slots → IsListed new_own place) → ((at : ℕ) → is_in (take i places) at ≡ true → at < length now.slots → IsListed own at)
     → (at : ℕ) → is_in (take (i + 1) places) at ≡ true → at < length now.slots → IsListed new_own at
 listed_next now own new_own places i place d below is stay here before at h within =
@@ -224,7 +223,7 @@ own_literal rule now name sound new place covers own cover m = cases (table_at n
 
 -- ---- the whole
 
-module _ (rule : Rule) (placed : Placed) (old new : KnownCovers) (own : List (Option (Vec NamedCover))) (touched : List (List ℕ)) (fresh : List ℕ)
+module _ (rule : Rule) (placed : Placed) (old new : KnownCovers) (own : List (Option (List NamedCover))) (touched : List (List ℕ)) (fresh : List ℕ)
     (notes : AreNotes rule placed (saving_in old) (covers_under old) own touched fresh) (grown : IsGrown placed old new)
     (renewed : (under : List ℕ) (cover : NamedCover) → has touched under ≡ true → Has cover (covers_under new under) → IsRight placed (saving_in new) cover) where
   pub all_true : AreTrue rule placed new own
@@ -245,7 +244,7 @@ module _ (rule : Rule) (placed : Placed) (old new : KnownCovers) (own : List (Op
             | inr right ↦ right
           ]
 
-  pub all_settled : (last : KnownCovers) (last_own : List (Option (Vec NamedCover))) → AreTrue rule placed last last_own → ((at : ℕ) → IsListed own at → IsListed last_own at)
+  pub all_settled : (last : KnownCovers) (last_own : List (Option (List NamedCover))) → AreTrue rule placed last last_own → ((at : ℕ) → IsListed own at → IsListed last_own at)
       → ((at : ℕ) → is_in fresh at ≡ true → at < length placed.slots → IsListed last_own at) → (names : List (List ℕ)) (places : List ℕ)
       → AreNotes rule placed (saving_in last) (covers_under last) last_own names places
   all_settled last last_own is stay listed names places = record {

@@ -2,7 +2,6 @@
 -- listed. Source: Brayton and McMullen, "The Decomposition and Factorization of Boolean
 -- Expressions" (1982): the kernels of a table. The limit on their number is the project's own.
 use Rattle.std.specs.Prelude.{◌≡◌, ◌↔◌, ℕ, ◌≤◌, Option, Some, None, List, [], ◌∷◌, length, slice_get}
-use Rattle.std.specs.Global.{Vec}
 use Rattle.circuit_model.specs.declared.circuit.Table.{Table}
 use Rattle.circuit_model.specs.declared.circuit.Circuit.{Circuit}
 use Rattle.alg_div.specs.Cubes.{Has}
@@ -35,13 +34,13 @@ told None = []
 told (Some table) = table ∷ []
 
 -- lists of covers that are kept are what the tables at their indices give by themselves
-pub record AreKept (rule : Rule) (slots : List (Option Table)) (lists : List (Option (Vec NamedCover))) : Type 0 where
+pub record AreKept (rule : Rule) (slots : List (Option Table)) (lists : List (Option (List NamedCover))) : Type 0 where
   pub long : length lists ≤ length slots
-  pub each : (place : ℕ) (covers : Vec NamedCover) → slice_get lists place ≡ Some (Some covers) → AreOwn rule (table_at slots place) covers.items
+  pub each : (place : ℕ) (covers : List NamedCover) → slice_get lists place ≡ Some (Some covers) → AreOwn rule (table_at slots place) covers
 
 -- what the table at an index gives by itself is listed
-abbrev pub IsListed : List (Option (Vec NamedCover)) → ℕ → Type 0
-IsListed own place = (covers : Vec NamedCover) × (slice_get own place ≡ Some (Some covers))
+abbrev pub IsListed : List (Option (List NamedCover)) → ℕ → Type 0
+IsListed own place = (covers : List NamedCover) × (slice_get own place ≡ Some (Some covers))
 
 -- why the candidates of a circuit are not listed; running out of memory needs no cause
 abbrev pub IsUnlisted : Rule → Circuit → SavingsFault → Type 0

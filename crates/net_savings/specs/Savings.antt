@@ -2,7 +2,6 @@
 -- which tables are listed, and what must be recomputed.
 -- Source: the project's own representation.
 use Rattle.std.specs.Prelude.{◌≡◌, ◌⊎◌, ℕ, ◌≤◌, Bool, false, true, Option, Some, None, List, length, slice_get}
-use Rattle.std.specs.Global.{Vec}
 use Rattle.std.specs.List.{list_any}
 use Rattle.circuit_model.specs.Names.{has}
 use Rattle.circuit_model.specs.Soundness.{given}
@@ -47,16 +46,16 @@ abbrev pub IsNoted : (NamedCover → Option ℕ) → NamedCover → Type 0
 IsNoted saving cover = (number : ℕ) × (saving cover ≡ Some number)
 
 -- savings are set for all covers that are listed
-abbrev pub AreNoted : (NamedCover → Option ℕ) → List (Option (Vec NamedCover)) → Type 0
-AreNoted saving own = (place : ℕ) (covers : Vec NamedCover) → slice_get own place ≡ Some (Some covers) → (cover : NamedCover) → Has cover covers.items → IsNoted saving cover
+abbrev pub AreNoted : (NamedCover → Option ℕ) → List (Option (List NamedCover)) → Type 0
+AreNoted saving own = (place : ℕ) (covers : List NamedCover) → slice_get own place ≡ Some (Some covers) → (cover : NamedCover) → Has cover covers → IsNoted saving cover
 
 -- savings are set for all covers that listed tables give together
-abbrev pub AreNotedShared : Rule → List (Option Table) → (NamedCover → Option ℕ) → List (Option (Vec NamedCover)) → Type 0
+abbrev pub AreNotedShared : Rule → List (Option Table) → (NamedCover → Option ℕ) → List (Option (List NamedCover)) → Type 0
 AreNotedShared rule slots saving own = (one other : ℕ) (cover : NamedCover) → IsListed own one → IsListed own other → IsSharedBy rule slots one other cover → IsNoted saving cover
 
 -- the savings of covers under names that were not touched are exact; all tables are listed except
 -- those at fresh indices
-pub record AreNotes (rule : Rule) (placed : Placed) (saving : NamedCover → Option ℕ) (under : List ℕ → List NamedCover) (own : List (Option (Vec NamedCover))) (touched : List (List ℕ)) (fresh : List ℕ) : Type 0 where
+pub record AreNotes (rule : Rule) (placed : Placed) (saving : NamedCover → Option ℕ) (under : List ℕ → List NamedCover) (own : List (Option (List NamedCover))) (touched : List (List ℕ)) (fresh : List ℕ) : Type 0 where
   pub found : AreFound saving under
   pub lists : AreKept rule placed.slots own
   pub long : length own ≡ length placed.slots
@@ -74,7 +73,7 @@ pub record Grows (placed : Placed) (saving : NamedCover → Option ℕ) (under :
   pub anew : (name : List ℕ) (cover : NamedCover) → Has cover (new_under name) → Has cover (under name) ⊎ IsRight placed new cover
 
 -- all savings that are set are exact, and lists are what tables give by themselves
-pub record AreTrue (rule : Rule) (placed : Placed) (known : KnownCovers) (own : List (Option (Vec NamedCover))) : Type 0 where
+pub record AreTrue (rule : Rule) (placed : Placed) (known : KnownCovers) (own : List (Option (List NamedCover))) : Type 0 where
   pub found : AreFound (saving_in known) (covers_under known)
   pub right : (cover : NamedCover) → IsRight placed (saving_in known) cover
   pub lists : AreKept rule placed.slots own
@@ -91,14 +90,14 @@ abbrev pub AreSavings : Rule → Placed → CandidateQueue → Type 0
 AreSavings rule placed kept = AreNotes rule placed (saving_in kept.ranked) (covers_under kept.ranked) kept.own.items kept.touched.keys kept.fresh.items
 
 -- a cover is in the list at an index
-abbrev pub IsIn : List (Option (Vec NamedCover)) → ℕ → NamedCover → Type 0
-IsIn own place cover = (covers : Vec NamedCover) × (slice_get own place ≡ Some (Some covers)) × Has cover covers.items
+abbrev pub IsIn : List (Option (List NamedCover)) → ℕ → NamedCover → Type 0
+IsIn own place cover = (covers : List NamedCover) × (slice_get own place ≡ Some (Some covers)) × Has cover covers
 
 -- whether a cover is in a list, if there is one
-abbrev pub held : Option (Vec NamedCover) → NamedCover → Bool
+abbrev pub held : Option (List NamedCover) → NamedCover → Bool
 held None cover = false
-held (Some covers) cover = list_any (cover_eq cover) covers.items
+held (Some covers) cover = list_any (cover_eq cover) covers
 
-abbrev pub held_at : Option (Option (Vec NamedCover)) → NamedCover → Bool
+abbrev pub held_at : Option (Option (List NamedCover)) → NamedCover → Bool
 held_at None cover = false
 held_at (Some list) cover = held list cover

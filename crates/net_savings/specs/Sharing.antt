@@ -2,7 +2,6 @@
 -- Source: the SIS report (UCB/ERL M92/41), `gcx`: the candidates are the cubes that two rows of the
 -- circuit share.
 use Rattle.std.specs.Prelude.{◌≡◌, ◌≢◌, ◌⊎◌, ℕ, ◌≤◌, Option, Some, None, List, [], ◌∷◌, length}
-use Rattle.std.specs.Global.{Vec}
 use Rattle.circuit_model.specs.declared.circuit.Table.{Table}
 use Rattle.alg_div.specs.Cubes.{Has}
 use Rattle.net_candidates.specs.Candidates.{ArePair, shared, cubes_of}
@@ -35,7 +34,7 @@ IsSharedBy Gcx slots one other cover = AreSharers one other (table_at slots one)
 
 -- covers with a literal each, among them all that the table at an index gives together with itself
 -- and with those that are listed
-pub record AreSharedHere (rule : Rule) (slots : List (Option Table)) (own : List (Option (Vec NamedCover))) (place : ℕ) (covers : List NamedCover) : Type 0 where
+pub record AreSharedHere (rule : Rule) (slots : List (Option Table)) (own : List (Option (List NamedCover))) (place : ℕ) (covers : List NamedCover) : Type 0 where
   pub some : (cover : NamedCover) → Has cover covers → 1 ≤ literals_in cover
   pub here : (cover : NamedCover) → IsSharedBy rule slots place place cover → Has cover covers
   pub there : (other : ℕ) (cover : NamedCover) → IsListed own other → IsSharedBy rule slots place other cover → Has cover covers

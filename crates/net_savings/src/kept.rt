@@ -6,7 +6,6 @@
 //! other cover is exact. Callers announce each change before they make it.
 
 ghost use Rattle.std.specs.Prelude.{◌≡◌, ℕ, ◌<◌, true, false, Some, None, List, length, slice_get, IfOk, OnOk};
-ghost use Rattle.std.specs.Global.{Vec as TheVec};
 ghost use Rattle.circuit_model.specs.Names.{has};
 ghost use Rattle.circuit_model.specs.declared.circuit.Table.{Table};
 ghost use Rattle.net_candidates.specs.declared.rule.Rule.{Rule};
@@ -59,7 +58,7 @@ impl Drop for CandidateQueue {
 // So many lists, none of which is known, and all their indices.
 fn unknown_lists(alloc: Global, count: usize) -> Result<(OwnLists, Vec<usize>), AllocError>
     ensures long { IfOk result (λ made. length made.0.items ≡ count) }
-    ensures none { IfOk result (λ made. (at : ℕ) (covers : TheVec NamedCover)
+    ensures none { IfOk result (λ made. (at : ℕ) (covers : List NamedCover)
         → slice_get made.0.items at ≡ Some (Some covers) → ⊥) }
     ensures all { IfOk result (λ made. (at : ℕ) → at < count → is_in made.1.items at ≡ true) }
 {

@@ -9,6 +9,7 @@ ghost use Rattle.net_work.specs.Placed.{circuit_of};
 ghost use Rattle.net_savings.specs.Listing.{IsListed, IsUnlisted};
 ghost use Rattle.net_savings.specs.Savings.{AreTrue};
 
+use crate::cover_set::CoverSet;
 use crate::covers::RankedCovers;
 use crate::fault::SavingsFault;
 use crate::own::own_made;
@@ -46,7 +47,8 @@ fn list_place<R: Row>(
     note_all(alloc, work, name, ranked, covers.as_slice())?;
     let shared = shared_here(alloc, work, rule, own, place)?;
     note_all(alloc, work, name, ranked, shared.as_slice())?;
-    put_list(own, place, covers);
+    let listed = CoverSet::of(alloc, covers)?;
+    put_list(own, place, listed);
     Ok(())
 }
 

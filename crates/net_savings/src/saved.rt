@@ -7,7 +7,6 @@
 //! first table that has too many kernels.
 
 ghost use Rattle.std.specs.Prelude.{◌≡◌, ◌↔◌, ℕ, ◌≤◌, true, Some, [], slice_get, IsTrue, IfOk, IfErr, OnOk, MatchOption};
-ghost use Rattle.std.specs.List.{list_any};
 ghost use Rattle.circuit_model.specs.Soundness.{IsSound};
 ghost use Rattle.circuit_model.specs.declared.circuit.Table.{Table};
 ghost use Rattle.net_candidates.specs.Candidates.{IsCandidate};
@@ -16,11 +15,11 @@ ghost use Rattle.net_candidates.specs.declared.rule.Rule.{Rule};
 ghost use Rattle.net_readers.specs.Fanouts.{is_in};
 ghost use Rattle.net_core.specs.Fresh.{IsNewName};
 ghost use Rattle.net_work.specs.Placed.{standing, circuit_of, table_at};
-ghost use Rattle.net_savings.specs.Orders.{cover_eq};
 ghost use Rattle.net_savings.specs.Listing.{AreKept, IsListed, IsUnlisted};
 ghost use Rattle.net_savings.specs.Saving.{literals_in};
 ghost use Rattle.net_savings.specs.Savings.{held, held_at, IsIn, AreSavings};
 
+use crate::cover_set::CoverSet;
 use crate::fault::SavingsFault;
 use crate::kept::CandidateQueue;
 use crate::owned::OwnLists;
@@ -35,20 +34,13 @@ use net_work::WorkingNetwork;
 use sis_base::Copied;
 use std::alloc::{AllocError, Global};
 
-// Whether a cover is among covers.
-fn is_among(covers: &[NamedCover], cover: &NamedCover) -> bool
-    ensures { result ≡ list_any (cover_eq cover.now) covers.now }
-{
-    covers.iter().any(|other| *cover == *other)
-}
-
 // Whether a cover is in a list, if there is one.
-fn holds(list: &Option<Vec<NamedCover>>, cover: &NamedCover) -> bool
+fn holds(list: &Option<CoverSet>, cover: &NamedCover) -> bool
     ensures { result ≡ held list.now cover.now }
 {
     match list {
         None => false,
-        Some(covers) => is_among(covers.as_slice(), cover),
+        Some(covers) => covers.has(cover),
     }
 }
 
