@@ -16,6 +16,9 @@ use Rattle.circuit_laws.proofs.Values.{valued}
 use Rattle.func_core.specs.Trees.{BooleanFunction, Tree}
 use Rattle.func_core.specs.Numbers.{Stays}
 use Rattle.func_core.specs.declared.functions.Func.{Func}
+use Rattle.net_func.specs.declared.parts.Part.{Part}
+use Rattle.net_func.specs.declared.parts.Part.TheVariants.{Tables, DontCare}
+use Rattle.net_func.specs.Parts.{part_tables, part_function, is_part_signal}
 use Rattle.net_func.specs.Signals.{leaves_at, function_over, own_function, free_function, forced_function, fixed, IsBigAt}
 use Rattle.net_func.specs.Numbering.{has_number, Solves, AreSettled, AreOver, AreAll, Adds, IsBlamed, no_numbers, leaf_bits, FitsOver}
 use Rattle.net_func.proofs.LeafBits.{bits_none, bits_some, leaves_same}
@@ -95,12 +98,22 @@ own_over circuit sound input reads =
           ]
     ]
 
-pub free_over : (circuit : Circuit) → IsSound circuit → AreOver (leaf_names circuit)
+free_over : (circuit : Circuit) → IsSound circuit → AreOver (leaf_names circuit)
     circuit.dont_care
 free_over circuit sound input reads =
     sym (has_append (outputs_of circuit.dont_care) (leaf_names circuit) input)
     ∙ all_has (λ name. has (outputs_of circuit.dont_care ++ leaf_names circuit) name ≡ true)
     (table_inputs circuit.dont_care) sound.dont_care_known input reads
+
+pub part_settled : (part : Part) (circuit : Circuit) → IsSound circuit
+    → AreSettled (part_tables part circuit)
+part_settled Tables circuit sound = own_settled circuit sound
+part_settled DontCare circuit sound = free_settled circuit sound
+
+pub part_over : (part : Part) (circuit : Circuit) → IsSound circuit
+    → AreOver (leaf_names circuit) (part_tables part circuit)
+part_over Tables circuit sound = own_over circuit sound
+part_over DontCare circuit sound = free_over circuit sound
 
 -- a leaf has its bit, and what a table drives solves its equation
 pub over_leaf : (tables : List Table) (leaves : (ℕ → Bool) → Leaves) → IsAcyclic tables → (name :
@@ -154,14 +167,14 @@ own_none circuit sound name table at point =
     ∙ bits_none 0 (leaf_names circuit) name point
     (driven_no_leaf circuit sound name (driver_output circuit.tables name table at))
 
-pub own_fits : (circuit : Circuit) → IsSound circuit
+own_fits : (circuit : Circuit) → IsSound circuit
     → FitsOver (leaf_names circuit) circuit.tables no_numbers (own_function circuit)
 own_fits circuit sound =
     over_fits circuit.tables (leaves_at circuit) (leaf_names circuit) no_numbers sound.acyclic
     (λ name free point. leaves_same circuit point name)
     (λ name table at unnumbered. own_none circuit sound name table at)
 
-pub free_fits : (circuit : Circuit) → IsSound circuit
+free_fits : (circuit : Circuit) → IsSound circuit
     → FitsOver (leaf_names circuit) circuit.dont_care no_numbers (free_function circuit)
 unfolding dont_care_leaves
 free_fits circuit sound =
@@ -173,6 +186,12 @@ free_fits circuit sound =
     ∙ leaves_same circuit point name)
     (λ name table at unnumbered point.
     ap (λ (found : Option Table). if is_some found then None else leaves_at circuit point name) at)
+
+pub part_fits : (part : Part) (circuit : Circuit) → IsSound circuit
+    → FitsOver (leaf_names circuit) (part_tables part circuit) no_numbers
+    (part_function part circuit)
+part_fits Tables circuit sound = own_fits circuit sound
+part_fits DontCare circuit sound = free_fits circuit sound
 
 -- one signal is fixed
 pub fixed_itself : (circuit : Circuit) → IsSound circuit → (name : List ℕ) (bit : Bool) (point : ℕ →
@@ -288,7 +307,7 @@ module _ {S : Type 0} (holds : S → ℕ → Type 0) (tree : S → ℕ → Tree)
 -- numbers over leaves and tables are those of a circuit
 module _ {S : Type 0} (holds : S → ℕ → Type 0) (tree : S → ℕ → Tree) (limit : S → ℕ) where
   -- from no numbers
-  pub over_none : (before after : S) (old new : List ℕ → Option Func) (leaves names : List (List ℕ))
+  over_none : (before after : S) (old new : List ℕ → Option Func) (leaves names : List (List ℕ))
       (tables : List Table) → ((name : List ℕ) → old name ≡ None) → leaves ≡ names
       → Adds holds tree limit before after old new
       (λ name. has leaves name || has (outputs_of tables) name) (FitsOver leaves tables old)
@@ -301,7 +320,7 @@ module _ {S : Type 0} (holds : S → ℕ → Type 0) (tree : S → ℕ → Tree)
       (λ name. has leaves name || has (outputs_of tables) name) (FitsOver leaves tables number))
       (fun_ext none) adds)
 
-  pub blamed_none : (before : S) (old : List ℕ → Option Func) (leaves names : List (List ℕ)) (tables
+  blamed_none : (before : S) (old : List ℕ → Option Func) (leaves names : List (List ℕ)) (tables
       : List Table)
       → ((name : List ℕ) → old name ≡ None) → leaves ≡ names → (blamed : List ℕ)
       → IsBlamed holds tree limit before tables old (FitsOver leaves tables old) blamed
@@ -312,67 +331,35 @@ module _ {S : Type 0} (holds : S → ℕ → Type 0) (tree : S → ℕ → Tree)
       (subst (λ (number : List ℕ → Option Func). IsBlamed holds tree limit before tables number
       (FitsOver leaves tables number) blamed) (fun_ext none) cause)
 
-  pub own_made : (before after : S) (circuit : Circuit) (tables : List Table) (new : List ℕ → Option
-      Func)
-      → IsSound circuit → tables ≡ circuit.tables
-      → Adds holds tree limit before after no_numbers new
-      (λ name. has (leaf_names circuit) name || has (outputs_of tables) name)
-      (FitsOver (leaf_names circuit) tables no_numbers)
-      → AreAll holds tree limit after
-      (λ name. has (leaf_names circuit) name || has (outputs_of circuit.tables) name)
-      (own_function circuit) new
-  own_made before after circuit tables new sound same adds =
-      all_right holds tree limit before after new
-      (λ name. has (leaf_names circuit) name || has (outputs_of circuit.tables) name)
-      (FitsOver (leaf_names circuit) circuit.tables no_numbers) (own_function circuit) (own_fits
-      circuit sound)
+  pub part_made : (before after : S) (part : Part) (circuit : Circuit) (leaves : List (List ℕ))
+      (tables : List Table) (old new : List ℕ → Option Func) → IsSound circuit
+      → ((name : List ℕ) → old name ≡ None) → leaves ≡ leaf_names circuit
+      → tables ≡ part_tables part circuit
+      → Adds holds tree limit before after old new
+      (λ name. has leaves name || has (outputs_of tables) name) (FitsOver leaves tables old)
+      → AreAll holds tree limit after (is_part_signal part circuit) (part_function part circuit) new
+  part_made before after part circuit leaves tables old new sound none leaves_are same adds =
+      all_right holds tree limit before after new (is_part_signal part circuit)
+      (FitsOver (leaf_names circuit) (part_tables part circuit) no_numbers)
+      (part_function part circuit) (part_fits part circuit sound)
       (subst (λ (ts : List Table). Adds holds tree limit before after no_numbers new
       (λ name. has (leaf_names circuit) name || has (outputs_of ts) name)
-      (FitsOver (leaf_names circuit) ts no_numbers)) same adds)
+      (FitsOver (leaf_names circuit) ts no_numbers)) same
+      (over_none before after old new leaves (leaf_names circuit) tables none leaves_are adds))
 
-  pub own_blamed : (before : S) (circuit : Circuit) (tables : List Table) → IsSound circuit
-      → tables ≡ circuit.tables → (blamed : List ℕ)
-      → IsBlamed holds tree limit before tables no_numbers (FitsOver (leaf_names circuit) tables
-      no_numbers)
-      blamed
-      → IsBigAt (limit before) circuit.tables (own_function circuit) blamed
-  own_blamed before circuit tables sound same blamed cause =
-      all_big holds tree limit before circuit.tables (FitsOver (leaf_names circuit) circuit.tables
-      no_numbers)
-      (own_function circuit) (own_fits circuit sound) blamed
+  pub part_blamed : (before : S) (part : Part) (circuit : Circuit) (leaves : List (List ℕ))
+      (tables : List Table) (old : List ℕ → Option Func) → IsSound circuit
+      → ((name : List ℕ) → old name ≡ None) → leaves ≡ leaf_names circuit
+      → tables ≡ part_tables part circuit → (blamed : List ℕ)
+      → IsBlamed holds tree limit before tables old (FitsOver leaves tables old) blamed
+      → IsBigAt (limit before) (part_tables part circuit) (part_function part circuit) blamed
+  part_blamed before part circuit leaves tables old sound none leaves_are same blamed cause =
+      all_big holds tree limit before (part_tables part circuit)
+      (FitsOver (leaf_names circuit) (part_tables part circuit) no_numbers)
+      (part_function part circuit) (part_fits part circuit sound) blamed
       (subst (λ (ts : List Table). IsBlamed holds tree limit before ts no_numbers
-      (FitsOver (leaf_names circuit) ts no_numbers) blamed) same cause)
-
-  pub free_made : (before after : S) (circuit : Circuit) (tables : List Table) (new : List ℕ →
-      Option Func)
-      → IsSound circuit → tables ≡ circuit.dont_care
-      → Adds holds tree limit before after no_numbers new
-      (λ name. has (leaf_names circuit) name || has (outputs_of tables) name)
-      (FitsOver (leaf_names circuit) tables no_numbers)
-      → AreAll holds tree limit after
-      (λ name. has (leaf_names circuit) name || has (outputs_of circuit.dont_care) name)
-      (free_function circuit) new
-  free_made before after circuit tables new sound same adds =
-      all_right holds tree limit before after new
-      (λ name. has (leaf_names circuit) name || has (outputs_of circuit.dont_care) name)
-      (FitsOver (leaf_names circuit) circuit.dont_care no_numbers) (free_function circuit)
-      (free_fits circuit sound)
-      (subst (λ (ts : List Table). Adds holds tree limit before after no_numbers new
-      (λ name. has (leaf_names circuit) name || has (outputs_of ts) name)
-      (FitsOver (leaf_names circuit) ts no_numbers)) same adds)
-
-  pub free_blamed : (before : S) (circuit : Circuit) (tables : List Table) → IsSound circuit
-      → tables ≡ circuit.dont_care → (blamed : List ℕ)
-      → IsBlamed holds tree limit before tables no_numbers (FitsOver (leaf_names circuit) tables
-      no_numbers)
-      blamed
-      → IsBigAt (limit before) circuit.dont_care (free_function circuit) blamed
-  free_blamed before circuit tables sound same blamed cause =
-      all_big holds tree limit before circuit.dont_care (FitsOver (leaf_names circuit)
-      circuit.dont_care no_numbers)
-      (free_function circuit) (free_fits circuit sound) blamed
-      (subst (λ (ts : List Table). IsBlamed holds tree limit before ts no_numbers
-      (FitsOver (leaf_names circuit) ts no_numbers) blamed) same cause)
+      (FitsOver (leaf_names circuit) ts no_numbers) blamed) same
+      (blamed_none before old leaves (leaf_names circuit) tables none leaves_are blamed cause))
 
   pub forced_made : (first second third : S) (circuit : Circuit) (leaves : List (List ℕ)) (tables :
       List Table)

@@ -14,25 +14,21 @@ use Rattle.func_core.specs.Numbers.{Stays}
 use Rattle.func_core.specs.declared.functions.Func.{Func}
 use Rattle.func_core.proofs.Meanings.{Means-same, Means-kept}
 use Rattle.net_func.specs.Numbering.{has_number, NumbersStand, AreSome, AreAll, Adds, IsBlamed, FitsOver}
-use Rattle.net_func.specs.Signals.{leaves_at, own_function, free_function, forced_function, fixed, IsBigAt}
+use Rattle.net_func.specs.declared.parts.Part.{Part}
+use Rattle.net_func.specs.Parts.{part_tables, part_function}
+use Rattle.net_func.specs.Signals.{leaves_at, own_function, forced_function, fixed, IsBigAt}
 use Rattle.net_func.specs.Kept.{is_signal, IsUnreached}
-use Rattle.net_func.proofs.Circuits.{own_fits, free_fits, over_fits, own_none, fixed_itself}
+use Rattle.net_func.proofs.Circuits.{part_fits, over_fits, own_none, fixed_itself}
 use Rattle.net_func.proofs.LeafBits.{leaves_same}
 use Rattle.net_func.proofs.Reach.{unreached_forced}
 
 -- functions of a circuit fit, whatever has a number already
-pub own_fits_over : (circuit : Circuit) → IsSound circuit → (number : List ℕ → Option Func)
-    → FitsOver (leaf_names circuit) circuit.tables number (own_function circuit)
-own_fits_over circuit sound number = record {
-  leaf = (own_fits circuit sound).leaf;
-  rest = λ name table at unnumbered. (own_fits circuit sound).rest name table at refl;
-}
-
-pub free_fits_over : (circuit : Circuit) → IsSound circuit → (number : List ℕ → Option Func)
-    → FitsOver (leaf_names circuit) circuit.dont_care number (free_function circuit)
-free_fits_over circuit sound number = record {
-  leaf = (free_fits circuit sound).leaf;
-  rest = λ name table at unnumbered. (free_fits circuit sound).rest name table at refl;
+pub part_fits_over : (part : Part) (circuit : Circuit) → IsSound circuit
+    → (number : List ℕ → Option Func)
+    → FitsOver (leaf_names circuit) (part_tables part circuit) number (part_function part circuit)
+part_fits_over part circuit sound number = record {
+  leaf = (part_fits part circuit sound).leaf;
+  rest = λ name table at unnumbered. (part_fits part circuit sound).rest name table at refl;
 }
 
 pub forced_fits_over : (circuit : Circuit) → IsSound circuit → (name : List ℕ) (bit : Bool)
@@ -168,7 +164,7 @@ module _ {S : Type 0} (holds : S → ℕ → Type 0) (tree : S → ℕ → Tree)
           signal (ap (λ (found : Option Func). is_some found) at) point));
     }
 
-    pub forced_fixed : (first second : S) (old new : List ℕ → Option Func)
+    forced_fixed : (first second : S) (old new : List ℕ → Option Func)
         → has (outputs_of circuit.tables) name ≡ true
         → AreSome holds tree limit first (is_signal circuit) (forced_function circuit name bit) old
         → Adds holds tree limit first second old new (λ other. bytes_eq other name)
@@ -189,6 +185,17 @@ module _ {S : Type 0} (holds : S → ℕ → Type 0) (tree : S → ℕ → Tree)
             or_right (has (leaf_names circuit) signal) (has (outputs_of circuit.tables) signal)
             (ap (has (outputs_of circuit.tables)) (same_name signal name is) ∙ driven)
         cases signal false known false is h = absurd (false≢true h)
+
+    pub forced_some : (first second : S) (number some new : List ℕ → Option Func)
+        → IsUnreached circuit.tables name number some
+        → has (outputs_of circuit.tables) name ≡ true
+        → AreSome holds tree limit first (is_signal circuit) (own_function circuit) number
+        → Adds holds tree limit first second some new (λ other. bytes_eq other name)
+        (λ value. (point : ℕ → Bool) → value name point ≡ bit)
+        → AreSome holds tree limit second (is_signal circuit) (forced_function circuit name bit) new
+    forced_some first second number some new unreached driven own adds =
+        forced_fixed first second some new driven (forced_start first number some unreached own)
+        adds
 
     pub fixed_known : (first second : S) (old new : List ℕ → Option Func)
         → Adds holds tree limit first second old new (λ other. bytes_eq other name)

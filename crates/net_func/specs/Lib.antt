@@ -4,4 +4,5 @@ pub mod Kept
 pub mod Locals
 pub mod Numbered
 pub mod Numbering
+pub mod Parts
 pub mod Signals

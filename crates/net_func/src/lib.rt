@@ -21,6 +21,7 @@ mod local;
 mod network;
 mod numbers;
 mod ordered;
+mod parts;
 mod rows;
 mod seen;
 mod signals;

@@ -16,7 +16,8 @@ ghost use Rattle.net_func.specs.Signals.{own_function, free_function, forced_fun
 use crate::fault::NetFuncFault;
 use crate::leaves::{add_leaf_names, add_names};
 use crate::numbers::{Numbered, Numbers};
-use crate::signals::{forced_numbers, free_numbers, own_numbers};
+use crate::parts::Part;
+use crate::signals::{forced_numbers, part_numbers};
 use circuit_model::{Circuit, Name, Names};
 use circuit_order::order;
 use func_core::Functions;
@@ -64,7 +65,7 @@ pub(crate) fn own_listed<F: Functions>(
         (IsBigAt (F.limit functions.old) circuit.now.tables (own_function circuit.now))) }
     ensures stays { Stays F.holds F.tree F.limit functions.old functions.new }
 {
-    let numbers = own_numbers(alloc, functions, circuit)?;
+    let numbers = part_numbers(alloc, functions, circuit, Part::Tables)?;
     Ok(listed_signals(alloc, circuit, &numbers)?)
 }
 
@@ -103,7 +104,7 @@ pub(crate) fn free_listed<F: Functions>(
         (IsBigAt (F.limit functions.old) circuit.now.dont_care (free_function circuit.now))) }
     ensures stays { Stays F.holds F.tree F.limit functions.old functions.new }
 {
-    let numbers = free_numbers(alloc, functions, circuit)?;
+    let numbers = part_numbers(alloc, functions, circuit, Part::DontCare)?;
     let names = order(alloc, circuit.dont_care.as_slice())?;
     Ok(numbers.listed(alloc, names.as_slice())?)
 }

@@ -3,9 +3,9 @@
 //!
 //! Invariant (`IsInOrder`): the circuit is sound, `leaves` are its leaves, and both orders are
 //! those of its tables and of its don't-care tables. `put_table` keeps the orders, as the new table
-//! reads nothing that the old one did not read. The calls `add_own`, `add_free` and `forced_beside`
-//! complete partial numbers: callers rely on `AreAll`, that exactly the signals have numbers, each
-//! that of its function.
+//! reads nothing that the old one did not read. The calls `add_part` and `forced_beside` complete
+//! partial numbers: callers rely on `AreAll`, that exactly the signals have numbers, each that of
+//! its function.
 
 ghost use Rattle.std.specs.Prelude.{◌≡◌, ◌<◌, ℕ, List, Some, length, slice_set, true, false, bytes_eq, IfOk, IfErr, OnOk};
 ghost use Rattle.circuit_model.specs.Names.{has};
@@ -15,14 +15,16 @@ ghost use Rattle.circuit_model.specs.declared.circuit.Table.{Table};
 ghost use Rattle.circuit_laws.specs.Edits.{replaced, with_replaced};
 ghost use Rattle.circuit_laws.specs.Fitting.{IsFitting};
 ghost use Rattle.func_core.specs.Numbers.{Stays};
-ghost use Rattle.net_func.specs.Numbering.{number_in, has_number, AreSome, AreAll};
-ghost use Rattle.net_func.specs.Signals.{own_function, free_function, forced_function, IsBigAt, Blames};
-ghost use Rattle.net_func.specs.Kept.{is_signal, is_free_signal, IsInOrder};
+ghost use Rattle.net_func.specs.Numbering.{number_in, IsOrderOf, AreSome, AreAll};
+ghost use Rattle.net_func.specs.Parts.{part_tables, part_function, is_part_signal};
+ghost use Rattle.net_func.specs.Signals.{own_function, forced_function, IsBigAt, Blames};
+ghost use Rattle.net_func.specs.Kept.{is_signal, IsInOrder};
 
 use crate::building::{TableOrder, place_at, table_at, table_order};
 use crate::fault::NetFuncFault;
 use crate::leaves::{add_constant, add_ordered, leaf_names};
 use crate::numbers::Numbers;
+use crate::parts::{Part, tables_of};
 use crate::unreached::unreached_numbers;
 use circuit_model::{Circuit, Name, Names, Table, Tables};
 use func_core::Functions;
@@ -121,84 +123,40 @@ pub(crate) fn put_table(alloc: Global, ordered: &mut OrderedCircuit, table: Tabl
     }
 }
 
-/// Makes the functions of all signals that have no number yet.
-pub(crate) fn add_own<F: Functions>(
-    alloc: Global,
-    functions: &mut F,
-    ordered: &OrderedCircuit,
-    numbers: &mut Numbers,
-) -> Result<(), NetFuncFault>
-    requires ready { IsInOrder ordered.now }
-    requires some { AreSome F.holds F.tree F.limit functions.old (is_signal ordered.now.circuit)
-        (own_function ordered.now.circuit) (number_in numbers.old) }
-    ensures ok { OnOk result (AreAll F.holds F.tree F.limit functions.new
-        (is_signal ordered.now.circuit) (own_function ordered.now.circuit)
-        (number_in numbers.new)) }
-    ensures big { IfErr result (λ fault. Blames fault (IsBigAt (F.limit functions.old)
-        ordered.now.circuit.tables (own_function ordered.now.circuit))) }
-    ensures stays { Stays F.holds F.tree F.limit functions.old functions.new }
+// The order of a part.
+fn order_in(ordered: &OrderedCircuit, part: Part) -> &TableOrder
+    requires { IsInOrder ordered.now }
+    ensures { IsOrderOf (part_tables part ordered.now.circuit) result.now }
 {
-    let leaves = ordered.leaves.as_slice();
-    let tables = ordered.circuit.tables.as_slice();
-    add_ordered(alloc, functions, numbers, leaves, tables, &ordered.tables)
+    match part {
+        Part::Tables => &ordered.tables,
+        Part::DontCare => &ordered.dont_care,
+    }
 }
 
-/// Makes the functions of the leaves and of the don't-care tables that have no number yet.
-pub(crate) fn add_free<F: Functions>(
+/// Makes the functions of the leaves and of the signals of a part that have no number yet.
+pub(crate) fn add_part<F: Functions>(
     alloc: Global,
     functions: &mut F,
     ordered: &OrderedCircuit,
+    part: Part,
     numbers: &mut Numbers,
 ) -> Result<(), NetFuncFault>
     requires ready { IsInOrder ordered.now }
     requires some { AreSome F.holds F.tree F.limit functions.old
-        (is_free_signal ordered.now.circuit) (free_function ordered.now.circuit)
+        (is_part_signal part ordered.now.circuit) (part_function part ordered.now.circuit)
         (number_in numbers.old) }
     ensures ok { OnOk result (AreAll F.holds F.tree F.limit functions.new
-        (is_free_signal ordered.now.circuit) (free_function ordered.now.circuit)
+        (is_part_signal part ordered.now.circuit) (part_function part ordered.now.circuit)
         (number_in numbers.new)) }
     ensures big { IfErr result (λ fault. Blames fault (IsBigAt (F.limit functions.old)
-        ordered.now.circuit.dont_care (free_function ordered.now.circuit))) }
+        (part_tables part ordered.now.circuit) (part_function part ordered.now.circuit))) }
     ensures stays { Stays F.holds F.tree F.limit functions.old functions.new }
 {
     let leaves = ordered.leaves.as_slice();
-    let tables = ordered.circuit.dont_care.as_slice();
-    add_ordered(
-        alloc,
-        functions,
-        numbers,
-        leaves,
-        tables,
-        &ordered.dont_care,
-    )
-}
-
-// Makes the functions of all signals that have no number yet, if one signal, which has a number, is
-// fixed at a bit.
-fn add_forced<F: Functions>(
-    alloc: Global,
-    functions: &mut F,
-    ordered: &OrderedCircuit,
-    numbers: &mut Numbers,
-    name: &Name,
-    bit: bool,
-) -> Result<(), NetFuncFault>
-    requires ready { IsInOrder ordered.now }
-    requires driven { has (outputs_of ordered.now.circuit.tables) name.now ≡ true }
-    requires fixed { has_number (number_in numbers.old) name.now ≡ true }
-    requires some { AreSome F.holds F.tree F.limit functions.old (is_signal ordered.now.circuit)
-        (forced_function ordered.now.circuit name.now bit) (number_in numbers.old) }
-    ensures ok { OnOk result (AreAll F.holds F.tree F.limit functions.new
-        (is_signal ordered.now.circuit) (forced_function ordered.now.circuit name.now bit)
-        (number_in numbers.new)) }
-    ensures big { IfErr result (λ fault. Blames fault (λ blamed. (bytes_eq blamed name.now ≡ false)
-        × IsBigAt (F.limit functions.old) ordered.now.circuit.tables
-        (forced_function ordered.now.circuit name.now bit) blamed)) }
-    ensures stays { Stays F.holds F.tree F.limit functions.old functions.new }
-{
-    let leaves = ordered.leaves.as_slice();
-    let tables = ordered.circuit.tables.as_slice();
-    add_ordered(alloc, functions, numbers, leaves, tables, &ordered.tables)
+    let tables = tables_of(&ordered.circuit, part);
+    let order = order_in(ordered, part);
+    add_ordered(alloc, functions, numbers, leaves, tables, order)
 }
 
 /// The numbers of the functions of all signals if one signal, which a table drives, is fixed at a
@@ -225,6 +183,15 @@ pub(crate) fn forced_beside<F: Functions>(
 {
     let mut numbers = unreached_numbers(alloc, own, ordered, name)?;
     add_constant(alloc, functions, &mut numbers, name, bit)?;
-    add_forced(alloc, functions, ordered, &mut numbers, name, bit)?;
+    let leaves = ordered.leaves.as_slice();
+    let tables = ordered.circuit.tables.as_slice();
+    add_ordered(
+        alloc,
+        functions,
+        &mut numbers,
+        leaves,
+        tables,
+        &ordered.tables,
+    )?;
     Ok(numbers)
 }

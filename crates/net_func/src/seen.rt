@@ -25,7 +25,8 @@ use crate::building::{Places, place_at, places_of};
 use crate::fault::{NetFuncFault, fault_at};
 use crate::numbers::Numbers;
 use crate::ordered::{OrderedCircuit, forced_beside};
-use crate::signals::{forced_numbers, free_numbers};
+use crate::parts::Part;
+use crate::signals::{forced_numbers, part_numbers};
 use circuit_model::{Circuit, Latch, Name};
 use func_core::{Func, FuncFault, Functions};
 use sis_base::Whole;
@@ -233,36 +234,6 @@ fn seen_by<F: Functions>(
     }
 }
 
-// Where a signal is observable, by the functions of all signals with it at 0 and with it at 1.
-fn seen_between<F: Functions>(
-    alloc: Global,
-    functions: &mut F,
-    circuit: &Circuit,
-    name: &Name,
-    low: &Numbers,
-    high: &Numbers,
-) -> Result<Func, NetFuncFault>
-    requires sound { IsSound circuit.now }
-    requires low { AreAll F.holds F.tree F.limit functions.old (is_signal circuit.now)
-        (forced_function circuit.now name.now false) (number_in low.now) }
-    requires high { AreAll F.holds F.tree F.limit functions.old (is_signal circuit.now)
-        (forced_function circuit.now name.now true) (number_in high.now) }
-    ensures ok { IfOk result (λ seen. Means F.holds F.tree F.limit functions.new seen.0
-        (is_seen circuit.now name.now)) }
-    ensures big { IfErr result (λ fault. Blames fault
-        (λ blamed. IsBigSeen (F.limit functions.old) circuit.now name.now)) }
-    ensures stays { Stays F.holds F.tree F.limit functions.old functions.new }
-{
-    let free = free_numbers(alloc, functions, circuit)?;
-    // A `Whole`, so that it is dropped in one call.
-    let places = Whole {
-        it: places_of(alloc, circuit.dont_care.as_slice())?,
-    };
-    seen_by(
-        alloc, functions, circuit, name, low, high, &free, &places.it,
-    )
-}
-
 /// Where a signal that a table drives is observable.
 pub(crate) fn seen_function<F: Functions>(
     alloc: Global,
@@ -280,7 +251,14 @@ pub(crate) fn seen_function<F: Functions>(
 {
     let low = forced_numbers(alloc, functions, circuit, name, false)?;
     let high = forced_numbers(alloc, functions, circuit, name, true)?;
-    seen_between(alloc, functions, circuit, name, &low, &high)
+    let free = part_numbers(alloc, functions, circuit, Part::DontCare)?;
+    // A `Whole`, so that it is dropped in one call.
+    let places = Whole {
+        it: places_of(alloc, circuit.dont_care.as_slice())?,
+    };
+    seen_by(
+        alloc, functions, circuit, name, &low, &high, &free, &places.it,
+    )
 }
 
 /// The same, by the functions that signals and the don't-care part have already.

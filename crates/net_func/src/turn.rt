@@ -19,7 +19,8 @@ ghost use Rattle.net_func.specs.Kept.{is_signal, is_free_signal, IsInOrder};
 use crate::building::table_at;
 use crate::fault::NetFuncFault;
 use crate::numbers::Numbers;
-use crate::ordered::{OrderedCircuit, add_free, add_own};
+use crate::ordered::{OrderedCircuit, add_part};
+use crate::parts::Part;
 use crate::seen::seen_beside;
 use circuit_model::Name;
 use func_core::{Func, Functions};
@@ -92,8 +93,8 @@ pub(crate) fn turn_of<F: Functions>(
         ⊎ IsBigSeen (F.limit functions.old) ordered.now.circuit name.now)) }
     ensures stays { Stays F.holds F.tree F.limit functions.old functions.new }
 {
-    add_own(alloc, functions, ordered, own)?;
-    add_free(alloc, functions, ordered, free)?;
+    add_part(alloc, functions, ordered, Part::Tables, own)?;
+    add_part(alloc, functions, ordered, Part::DontCare, free)?;
     let seen = seen_beside(alloc, functions, ordered, name, own, free)?;
     let inputs = input_numbers(alloc, ordered, name, own)?;
     let own = own.known(name);

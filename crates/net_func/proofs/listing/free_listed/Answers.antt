@@ -17,7 +17,7 @@ listed-requires g c =
 pub returns-clause-ok : goal.returns-clause-ok
 returns-clause-ok g c =
     numbered_from g.F.Functions.holds g.F.Functions.tree g.F.Functions.limit
-    c.free_numbers.new.functions (number_in c.in_ok-numbers.numbers)
+    c.part_numbers.new.functions (number_in c.in_ok-numbers.numbers)
     (free_function c.args.circuit.now) (order_of c.args.circuit.now.dont_care)
     c.in_ok-listed.field-0
     c.in_ok-numbers.ensures.ok.right

@@ -12,7 +12,7 @@ listed_signals-requires-clause-known g c = c.in_ok-numbers.ensures.ok.known
 pub returns-clause-ok : goal.returns-clause-ok
 returns-clause-ok g c =
     numbered_from g.F.Functions.holds g.F.Functions.tree g.F.Functions.limit
-    c.own_numbers.new.functions (number_in c.in_ok-numbers.numbers)
+    c.part_numbers.new.functions (number_in c.in_ok-numbers.numbers)
     (own_function c.args.circuit.now)
     (leaf_names c.args.circuit.now ++ order_of c.args.circuit.now.tables)
     c.in_ok-listed_signals.field-0
