@@ -1,7 +1,7 @@
 -- Covers as divisors: over the inputs of a table their rows are different, and have as many
 -- literals as the cubes.
 use Rattle.std.proofs.Common.{◌≡◌, ℕ, ◌+◌, Bool, true, false, cond, Option, Some, None, List, [], ◌∷◌, map, length, bytes_eq, Ordering, refl, sym, ap, ap₂, ◌∙◌, subst, inl, inr, arith}
-use Rattle.std.specs.List.{sum_by, list_all}
+use Rattle.std.specs.List.{list_all}
 use Rattle.std.specs.List.Sorted.{IsStrictlySortedBy}
 use Rattle.std.proofs.lemmas.Bool.{and_parts, or_cases, false≢true}
 use Rattle.std.proofs.lemmas.List.Sums.{sum_by-cons}
@@ -10,6 +10,7 @@ use Rattle.circuit_model.specs.Names.{has, all_different}
 use Rattle.circuit_laws.proofs.Names.{same_name, name_itself, name_not, has_head, has_tail, different_head, different_tail}
 use Rattle.cube_cover.specs.Literals.{literal_number, row_literals}
 use Rattle.alg_div.specs.Cubes.{Has}
+use Rattle.net_candidates.specs.Candidates.{literals_in}
 use Rattle.net_candidates.proofs.Sums.{AreOnce, once_mapped}
 use Rattle.net_candidates.proofs.Products.{literals_in_all}
 use Rattle.net_candidates.proofs.TidyLiterals.{table_literals}
@@ -160,10 +161,6 @@ row_over_literals names (literal ∷ cube) once apart over =
     let rest = row_over_literals names cube once (different_tail literal.name (names_of cube) apart) parts.1 in
     omega (arith, more, rest)
 
--- how many literals a cover has
-abbrev pub literals_in : NamedCover → ℕ
-literals_in cover = sum_by (λ (cube : Cube). length cube) cover
-
 pub rows_over_literals : (names : List (List ℕ)) (cover : NamedCover) → all_different names ≡ true → all_apart cover ≡ true → is_over names cover ≡ true
     → literals_in_all (map (row_over names) cover) ≡ literals_in cover
 rows_over_literals names [] once apart over = refl
@@ -172,7 +169,7 @@ rows_over_literals names (cube ∷ cover) once apart over =
     let second = and_parts (list_all (λ (literal : Literal). has names literal.name) cube) (is_over names cover) over in
     let rest : literals_in_all (map (row_over names) cover) ≡ literals_in cover = rows_over_literals names cover once first.1 second.1 in
     let here = row_over_literals names cube once first.0 second.0 in
-    omega (arith, rest, here, sum_by-cons row_literals (row_over names cube) (map (row_over names) cover), sum_by-cons (λ (x : Cube). length x) cube cover)
+    omega (arith, rest, here, sum_by-cons row_literals (row_over names cube) (map (row_over names) cover), sum_by-cons length cube cover)
 
 -- the table of a cover has the cover's literals
 pub cover_table_literals : (name : List ℕ) (cover : NamedCover) → all_apart cover ≡ true → literals_of_table (cover_table name cover) ≡ literals_in cover

@@ -6,7 +6,7 @@ use Rattle.circuit_model.specs.Counts.{literals_of}
 use Rattle.circuit_model.specs.declared.circuit.Table.{Table}
 use Rattle.circuit_model.specs.declared.circuit.Circuit.{Circuit}
 use Rattle.circuit_laws.proofs.Greedy.{ends_one, stops_one, stops_apart, end_no_stop, best_one as best_choice_one, none_best, first_one, first_not_all}
-use Rattle.net_candidates.specs.Extracting.{extracted, literals_after, IsOpen, IsBest, IsNext, IsStep, IsDone, IsExtracted, IsOver, IsFull, IsFirstMany, IsUnlistable, HasManyKernels, IsListable}
+use Rattle.net_candidates.specs.Extracting.{extracted, literals_after, IsOpen, IsBest, IsNext, IsStep, IsDone, IsExtracted, IsOver, IsFull, IsFirstMany, IsUnlistable, HasManyCandidates, IsListable}
 use Rattle.net_candidates.specs.declared.rule.Rule.{Rule}
 use Rattle.cover_names.specs.Literals.{NamedCover, cover_cmp}
 use Rattle.cover_names.proofs.Orders.{IsOrder, cover_order}
@@ -50,11 +50,11 @@ over_no_step rule circuit over new step = no_room (node_count circuit) MAX_NODES
     no_room : (m n : ℕ) → m < n → n ≤ m → ⊥
     no_room m n h k = absurd (omega (arith, h, k))
 
-many_apart : (rule : Rule) (table : Table) → HasManyKernels rule table → IsListable rule table → ⊥
+many_apart : (rule : Rule) (table : Table) → HasManyCandidates rule table → IsListable rule table → ⊥
 many_apart rule table many listable = listable many
 
 many_no_step : (rule : Rule) (name : List ℕ) (circuit : Circuit) → IsFirstMany rule circuit.tables name → (new : Circuit) → IsStep rule circuit new → ⊥
-many_no_step rule name circuit many new step = first_not_all (IsListable rule) (HasManyKernels rule) (many_apart rule) circuit.tables many.table many.first step.next.listable
+many_no_step rule name circuit many new step = first_not_all (IsListable rule) (HasManyCandidates rule) (many_apart rule) circuit.tables many.table many.first step.next.listable
 
 pub extracted_one : (rule : Rule) (circuit new other : Circuit) → IsExtracted rule circuit new → IsExtracted rule circuit other → new ≡ other
 extracted_one rule = ends_one (IsStep rule) (step_one rule) (IsDone rule) (done_no_step rule)
@@ -66,17 +66,17 @@ extracted_not_full rule =
 pub extracted_not_unlistable : (rule : Rule) (circuit new : Circuit) (name : List ℕ) → IsExtracted rule circuit new → IsUnlistable rule circuit name → ⊥
 extracted_not_unlistable rule circuit new name =
     end_no_stop (IsStep rule) (step_one rule) (IsDone rule) (λ last. IsFirstMany rule last.tables name) (done_no_step rule) (many_no_step rule name)
-    (λ last done many. first_not_all (IsListable rule) (HasManyKernels rule) (many_apart rule) last.tables many.table many.first done.listable) circuit new
+    (λ last done many. first_not_all (IsListable rule) (HasManyCandidates rule) (many_apart rule) last.tables many.table many.first done.listable) circuit new
 
 pub full_not_unlistable : (rule : Rule) (circuit : Circuit) (name : List ℕ) → IsFull rule circuit → IsUnlistable rule circuit name → ⊥
 full_not_unlistable rule circuit name =
     stops_apart (IsStep rule) (step_one rule) (IsOver rule) (λ last. IsFirstMany rule last.tables name) (over_no_step rule) (many_no_step rule name)
-    (λ last over many. first_not_all (IsListable rule) (HasManyKernels rule) (many_apart rule) last.tables many.table many.first over.next.listable) circuit
+    (λ last over many. first_not_all (IsListable rule) (HasManyCandidates rule) (many_apart rule) last.tables many.table many.first over.next.listable) circuit
 
 -- the first table with too many kernels is unique
 many_one : (rule : Rule) (tables : List Table) (name other : List ℕ) → IsFirstMany rule tables name → IsFirstMany rule tables other → name ≡ other
 many_one rule tables name other one second =
-    sym one.named ∙ ap (λ (t : Table). t.output) (first_one (IsListable rule) (HasManyKernels rule) (many_apart rule) tables one.table second.table one.first second.first) ∙ second.named
+    sym one.named ∙ ap (λ (t : Table). t.output) (first_one (IsListable rule) (HasManyCandidates rule) (many_apart rule) tables one.table second.table one.first second.first) ∙ second.named
 
 pub unlistable_one : (rule : Rule) (circuit : Circuit) (name other : List ℕ) → IsUnlistable rule circuit name → IsUnlistable rule circuit other → name ≡ other
 unlistable_one rule circuit name other one second =

@@ -1,15 +1,15 @@
 -- The number of literals after a cover is extracted: the sum over the tables that are divided, and
 -- over the new one; for a table that is divided it does not depend on the new name.
-use Rattle.std.proofs.Common.{◌≡◌, ◌⊎◌, ℕ, ◌+◌, ◌*◌, ◌≤◌, zero, suc, Bool, true, false, not, ◌||◌, cond, if◌then◌else◌, Option, List, [], ◌∷◌, ◌++◌, map, filter, length, bytes_eq, refl, sym, ap, ap₂, ◌∙◌, subst, inl, inr, arith}
+use Rattle.std.proofs.Common.{◌≡◌, ◌⊎◌, ℕ, ◌+◌, ◌*◌, ◌≤◌, zero, suc, Bool, true, false, not, ◌||◌, cond, if◌then◌else◌, Option, List, [], ◌∷◌, map, filter, length, refl, sym, ap, ap₂, ◌∙◌, subst, inl, inr, arith}
 use Rattle.std.specs.List.{sum_by}
-use Rattle.std.proofs.lemmas.Bool.{or_cases, false≢true}
+use Rattle.std.proofs.lemmas.Bool.{false≢true}
 use Rattle.std.proofs.lemmas.List.Sums.{sum_by-cons, sum_by_push}
 use Rattle.std.proofs.Math.Nat.{suc-mul, mul-suc}
 use Rattle.circuit_model.specs.Counts.{literals_of, literals_of_table}
 use Rattle.circuit_model.specs.Names.{has, all_different}
 use Rattle.circuit_model.specs.declared.circuit.Table.{Table}
 use Rattle.circuit_model.specs.declared.circuit.Circuit.{Circuit}
-use Rattle.circuit_laws.proofs.Names.{same_name, apart_different, different_cons, different_none}
+use Rattle.circuit_laws.proofs.Sound.{one_more}
 use Rattle.cube_cover.specs.Literals.{row_literals}
 use Rattle.alg_div.specs.Cubes.{row_eq}
 use Rattle.net_candidates.specs.Extracting.{literals_after}
@@ -53,21 +53,9 @@ firsts_small (row ∷ rows) =
 
 -- ---- a table that is divided
 
-some_joined : (bit : Bool) (f d q : List (List (Option Bool))) (phase : Bool) → has_no_cube q ≡ false → some_row_or_phase_one (map characters_of (joined_rows bit f d q)) phase ≡ true
+pub some_joined : (bit : Bool) (f d q : List (List (Option Bool))) (phase : Bool) → has_no_cube q ≡ false → some_row_or_phase_one (map characters_of (joined_rows bit f d q)) phase ≡ true
 some_joined bit f d [] phase h = absurd (false≢true (sym h))
 some_joined bit f d (cube ∷ q) phase h = refl
-
-one_more_different : (names : List (List ℕ)) (name : List ℕ) → all_different names ≡ true → has names name ≡ false → all_different (names ++ name ∷ []) ≡ true
-one_more_different names name once free =
-    apart_different names (name ∷ []) (record {
-      front = once;
-      back = different_cons name [] refl different_none;
-      between = λ other m n.
-          elim (or_cases (bytes_eq other name) false n) as (λ _. ⊥) [
-            | inl e ↦ false≢true (sym free ∙ subst (λ (x : List ℕ). has names x ≡ true) (same_name other name e) m)
-            | inr k ↦ false≢true k
-          ];
-    })
 
 module _ (name : List ℕ) (bit : Bool) (cover : NamedCover) (table : Table) where
   -- the table reads what the cover reads, and has a quotient
@@ -105,7 +93,7 @@ module _ (name : List ℕ) (bit : Bool) (cover : NamedCover) (table : Table) whe
   divided_literals may is =
       ap literals_of_table (divided_where is)
       ∙ (tidied_literals (rejoined name bit table (divisor name bit cover table) (found name bit cover table)) (rejoined_wide name bit cover table may.wide)
-      (one_more_different table.inputs name may.once may.free)
+      (one_more table.inputs name may.once may.free)
       (some_joined bit (rows_of name bit cover table) (divisor name bit cover table) (found name bit cover table) table.phase is.some)
       ∙ ap (λ (rows : List (List (Option Bool))). literals_in_all (firsts rows)) (all_places_back (joined_rows bit (rows_of name bit cover table) (divisor name bit cover table) (found name bit cover table))))
 

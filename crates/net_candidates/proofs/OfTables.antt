@@ -7,7 +7,7 @@ use Rattle.alg_kernel.specs.Kernels.{IsKernel, AreKernels, MoreKernels, rows_in}
 use Rattle.alg_kernel.specs.declared.search.KernelFault.{KernelFault}
 use Rattle.alg_kernel.specs.declared.search.KernelFault.TheVariants.{KernelLimit, Memory}
 use Rattle.net_candidates.specs.Candidates.{cubes_of, IsKernelOf}
-use Rattle.net_candidates.specs.Extracting.{HasManyKernels}
+use Rattle.net_candidates.specs.Extracting.{HasManyCandidates}
 use Rattle.net_candidates.specs.declared.rule.Rule.{Rule}
 use Rattle.net_candidates.specs.declared.rule.Rule.TheVariants.{Gkx}
 use Rattle.cover_names.specs.Literals.{Cube, NamedCover, sorted_cube}
@@ -66,7 +66,7 @@ kernels_own output table kernels over are cover = (
       (Has-map (cover_over table.inputs) k.rows kernels (are.every k.rows (moved_back table over (λ (width : ℕ) (f : List (List (Option Bool))). IsKernel width f k.rows) k.kernel))),
 )
 
-pub many_kernels : {R : Type 0} (output : List ℕ) (table : CoverTable R) → IsOverInputs table → MoreKernels MAX_KERNELS table.cover.width table.cover.rows ↔ HasManyKernels Gkx (named output table)
+pub many_kernels : {R : Type 0} (output : List ℕ) (table : CoverTable R) → IsOverInputs table → MoreKernels MAX_KERNELS table.cover.width table.cover.rows ↔ HasManyCandidates Gkx (named output table)
 unfolding named
 many_kernels output table over = (moved table over (MoreKernels MAX_KERNELS), moved_back table over (MoreKernels MAX_KERNELS))
 
@@ -82,15 +82,15 @@ gkx_own rule output table names covers kernels made asked over same those e are 
     (kernels_own output table (rows_in kernels) over are cover))
 
 pub gkx_listable : {R : Type 0} (rule : Rule) (output : List ℕ) (table : CoverTable R) → rule ≡ Gkx → IsOverInputs table → (MoreKernels MAX_KERNELS table.cover.width table.cover.rows → ⊥)
-    → HasManyKernels rule (named output table) → ⊥
+    → HasManyCandidates rule (named output table) → ⊥
 gkx_listable rule output table asked over few many =
-    few ((many_kernels output table over).1 (subst (λ (r : Rule). HasManyKernels r (named output table)) asked many))
+    few ((many_kernels output table over).1 (subst (λ (r : Rule). HasManyCandidates r (named output table)) asked many))
 
 limit_of : (fault : KernelFault) → fault_of fault ≡ ManyKernels → fault ≡ KernelLimit
 limit_of KernelLimit e = refl
 limit_of Memory e = absurd cc
 
 pub gkx_many : {R : Type 0} (rule : Rule) (output : List ℕ) (table : CoverTable R) (fault : KernelFault) → rule ≡ Gkx → IsOverInputs table → fault_of fault ≡ ManyKernels
-    → (fault ≡ KernelLimit → MoreKernels MAX_KERNELS table.cover.width table.cover.rows) → HasManyKernels rule (named output table)
+    → (fault ≡ KernelLimit → MoreKernels MAX_KERNELS table.cover.width table.cover.rows) → HasManyCandidates rule (named output table)
 gkx_many rule output table fault asked over e many =
-    subst (λ (r : Rule). HasManyKernels r (named output table)) (sym asked) ((many_kernels output table over).0 (many (limit_of fault e)))
+    subst (λ (r : Rule). HasManyCandidates r (named output table)) (sym asked) ((many_kernels output table over).0 (many (limit_of fault e)))

@@ -18,13 +18,13 @@ use Rattle.alg_div.specs.Cubes.{Has}
 use Rattle.alg_div.proofs.Lists.{Has-map, Has-right}
 use Rattle.alg_kernel.specs.Kernels.{row_cmp, Ascends}
 use Rattle.alg_kernel.proofs.Orders.{row_total}
-use Rattle.net_candidates.specs.Candidates.{ArePair, shared, own, cubes_of, all_cubes, IsDivisorOfTwoCubes, IsCubeOfTwoLiterals, IsKernelOf, IsSharedCube, IsCandidate}
+use Rattle.net_candidates.specs.Candidates.{ArePair, shared, own, cubes_of, all_cubes, IsDivisorOfTwoCubes, IsCubeOfTwoLiterals, IsKernelOf, IsSharedCube, IsCandidate, literals_in}
 use Rattle.net_candidates.specs.declared.rule.Rule.{Rule}
 use Rattle.net_candidates.specs.declared.rule.Rule.TheVariants.{Fx, Gkx, Gcx}
 use Rattle.net_candidates.proofs.Sums.{AreOnce}
 use Rattle.net_candidates.proofs.Products.{literals_in_all}
 use Rattle.net_candidates.proofs.Gains.{IsDivided, IsDivisible, divided_closed, divided_small}
-use Rattle.net_candidates.proofs.Divisors.{has_in, in_has, rising_once, IsProper, divisor_once, literals_in, rows_over_literals}
+use Rattle.net_candidates.proofs.Divisors.{has_in, in_has, rising_once, IsProper, divisor_once, rows_over_literals}
 use Rattle.net_candidates.proofs.Usable.{all_member, all_pair, IsReader, tables_read, candidate_usable}
 use Rattle.cover_names.specs.Literals.{Cube, NamedCover, literal_cmp, cube_cmp, sorted, sorted_cube}
 use Rattle.cover_names.specs.Cubes.{cube_over, row_over, is_over}
@@ -83,8 +83,8 @@ member_literals : (cover : NamedCover) (cube : Cube) → Has cube cover → leng
 member_literals [] cube m = absurd m
 member_literals (first ∷ cover) cube m =
     elim m as (λ _. length cube ≤ literals_in (first ∷ cover)) [
-      | inl e ↦ (let same : length cube ≡ length first = ap length e in omega (arith, same, sum_by-cons (λ (x : Cube). length x) first cover))
-      | inr n ↦ (let rest : length cube ≤ literals_in cover = member_literals cover cube n in omega (arith, rest, sum_by-cons (λ (x : Cube). length x) first cover))
+      | inl e ↦ (let same : length cube ≡ length first = ap length e in omega (arith, same, sum_by-cons length first cover))
+      | inr n ↦ (let rest : length cube ≤ literals_in cover = member_literals cover cube n in omega (arith, rest, sum_by-cons length first cover))
     ]
 
 some_literal : (cube : Cube) → cube ≢ [] → 1 ≤ length cube

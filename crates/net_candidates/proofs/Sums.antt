@@ -70,7 +70,7 @@ has_split {X} x (y ∷ ys) m =
       | inr n ↦ (let (before, after, e) = has_split x ys n in (y ∷ before, after, ap (λ (zs : List X). y ∷ zs) e))
     ]
 
-pair_later : {X : Type 0} (first : X) (xs : List X) (x y : X) → ArePair xs x y → ArePair (first ∷ xs) x y
+pub pair_later : {X : Type 0} (first : X) (xs : List X) (x y : X) → ArePair xs x y → ArePair (first ∷ xs) x y
 pair_later {X} first xs x y pair = record { before = first ∷ pair.before; between = pair.between; after = pair.after; among = ap (λ (zs : List X). first ∷ zs) pair.among }
 
 pair_first : {X : Type 0} (first : X) (xs : List X) (x y : X) → x ≡ first → Has y xs → ArePair (first ∷ xs) x y

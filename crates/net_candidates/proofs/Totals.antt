@@ -8,10 +8,10 @@ use Rattle.circuit_model.specs.Soundness.{given, IsSound}
 use Rattle.circuit_model.specs.declared.circuit.Table.{Table}
 use Rattle.circuit_model.specs.declared.circuit.Circuit.{Circuit}
 use Rattle.alg_div.specs.Cubes.{Has}
-use Rattle.net_candidates.specs.Candidates.{IsCandidate}
+use Rattle.net_candidates.specs.Candidates.{IsCandidate, literals_in}
 use Rattle.net_candidates.specs.Extracting.{literals_after, IsListable, IsOpen, IsBest, IsDone}
 use Rattle.net_candidates.specs.declared.rule.Rule.{Rule}
-use Rattle.net_candidates.proofs.Divisors.{literals_in, cover_table_literals}
+use Rattle.net_candidates.proofs.Divisors.{cover_table_literals}
 use Rattle.net_candidates.proofs.Gains.{literals_extracted}
 use Rattle.net_candidates.proofs.Proper.{candidate_small}
 use Rattle.net_candidates.proofs.Usable.{tables_read, candidate_usable}

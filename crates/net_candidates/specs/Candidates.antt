@@ -4,9 +4,9 @@
 -- and McMullen, "The Decomposition and Factorization of Boolean Expressions" (1982), and the SIS
 -- report (UCB/ERL M92/41) for `gkx` and `gcx`; De Micheli, "Synthesis and Optimization of Digital
 -- Circuits", chapter 8.
-use Rattle.std.specs.Prelude.{◌≡◌, ◌≢◌, ◌⊎◌, ◌≤◌, Bool, not, ◌&&◌, Option, List, [], ◌∷◌, ◌++◌, map, filter, flat_map, length, bytes_eq}
+use Rattle.std.specs.Prelude.{◌≡◌, ◌≢◌, ◌⊎◌, ℕ, ◌≤◌, Bool, not, ◌&&◌, Option, List, [], ◌∷◌, ◌++◌, map, filter, flat_map, length, bytes_eq}
 use Rattle.std.specs.Bool.{beq}
-use Rattle.std.specs.List.{list_any}
+use Rattle.std.specs.List.{sum_by, list_any}
 use Rattle.circuit_model.specs.declared.circuit.Table.{Table}
 use Rattle.alg_div.specs.Cubes.{Has}
 use Rattle.alg_kernel.specs.Kernels.{IsKernel}
@@ -27,6 +27,10 @@ pub record ArePair {X : Type 0} (items : List X) (first second : X) : Type 0 whe
 -- the same literal
 abbrev pub same_literal : Literal → Literal → Bool
 same_literal one other = bytes_eq one.name other.name && beq one.bit other.bit
+
+-- the number of literals of a cover, over names or over numbers
+abbrev pub literals_in : {X : Type 0} → List (List X) → ℕ
+literals_in cover = sum_by length cover
 
 -- the literals of a cube that another one has too, and those that it lacks
 abbrev pub shared : Cube → Cube → Cube

@@ -46,14 +46,18 @@ abbrev pub IsBest : Rule → Circuit → List ℕ → NamedCover → Type 0
 IsBest rule circuit name cover =
     IsBestChoice (IsOpen rule circuit name) (λ other one. cover_cmp other one ≡ Less) (literals_after circuit name) (literals_of circuit) cover
 
--- if kernels are the candidates: a table has more than `MAX_KERNELS` of them
-abbrev pub HasManyKernels : Rule → Table → Type 0
-HasManyKernels Gkx table = MoreKernels MAX_KERNELS (length table.inputs) (map places_of table.rows)
-HasManyKernels rule table = ⊥
+-- a table has more than `MAX_KERNELS` kernels, which are too many to be listed
+abbrev pub HasManyKernels : Table → Type 0
+HasManyKernels table = MoreKernels MAX_KERNELS (length table.inputs) (map places_of table.rows)
+
+-- kernels are the candidates, and a table has too many of them
+abbrev pub HasManyCandidates : Rule → Table → Type 0
+HasManyCandidates Gkx table = HasManyKernels table
+HasManyCandidates rule table = ⊥
 
 -- the candidates of a table can be listed
 abbrev pub IsListable : Rule → Table → Type 0
-IsListable rule table = HasManyKernels rule table → ⊥
+IsListable rule table = HasManyCandidates rule table → ⊥
 
 -- the best candidate of a circuit, under the least free name
 pub record IsNext (rule : Rule) (circuit : Circuit) (name : List ℕ) (cover : NamedCover) : Type 0 where
@@ -97,7 +101,7 @@ IsFull rule circuit = HasStop (IsStep rule) (IsOver rule) circuit
 -- the first of some tables with too many kernels drives a name
 pub record IsFirstMany (rule : Rule) (tables : List Table) (name : List ℕ) : Type 0 where
   pub table : Table
-  pub first : IsFirstFailing (IsListable rule) (HasManyKernels rule) tables table
+  pub first : IsFirstFailing (IsListable rule) (HasManyCandidates rule) tables table
   pub named : table.output ≡ name
 
 -- steps lead to a circuit whose first table with too many kernels drives a name

@@ -10,7 +10,7 @@
 ghost use Rattle.std.specs.Prelude.{◌≡◌, ◌↔◌, ◌++◌, ℕ, List, map, flat_map, length, IfOk, IfErr, OnOk};
 ghost use Rattle.alg_div.specs.Cubes.{Has};
 ghost use Rattle.alg_kernel.specs.Kernels.{rows_in};
-ghost use Rattle.net_candidates.specs.Extracting.{HasManyKernels, IsListable};
+ghost use Rattle.net_candidates.specs.Extracting.{HasManyCandidates, IsListable};
 ghost use Rattle.cover_names.specs.Cubes.{cover_over};
 ghost use Rattle.cover_names.specs.Literals.{NamedCover};
 ghost use Rattle.net_core.specs.Tables.{named, IsOverInputs};
@@ -119,7 +119,7 @@ pub fn own_candidates<R: Row>(
     ensures listable { IfOk result (λ made. (output : List ℕ) → IsListable rule
         (named output table.now)) }
     ensures many { IfErr result (λ fault. fault ≡ ManyKernels → (output : List ℕ)
-        → HasManyKernels rule (named output table.now)) }
+        → HasManyCandidates rule (named output table.now)) }
 {
     match rule {
         Rule::Fx => {

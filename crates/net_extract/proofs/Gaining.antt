@@ -11,7 +11,7 @@ use Rattle.circuit_model.specs.declared.circuit.Table.{Table}
 use Rattle.circuit_model.specs.declared.circuit.Circuit.{Circuit}
 use Rattle.circuit_laws.proofs.Sound.{all_append}
 use Rattle.alg_div.specs.Cubes.{Has}
-use Rattle.net_candidates.specs.Candidates.{IsCandidate, cubes_of}
+use Rattle.net_candidates.specs.Candidates.{IsCandidate, cubes_of, literals_in}
 use Rattle.net_candidates.specs.Extracting.{literals_after, IsListable, IsOpen, IsNext, IsDone}
 use Rattle.net_candidates.specs.declared.rule.Rule.TheVariants.{Fx}
 use Rattle.net_candidates.proofs.Totals.{lost, IsExact, lost_exact, best_from, done_from}
@@ -30,7 +30,7 @@ use Rattle.alg_tables.specs.Dividing.{divided}
 use Rattle.circuit_tables.specs.Tidy.{rows_differ}
 use Rattle.net_savings.specs.Sharing.{cubes_in}
 use Rattle.net_extract.specs.Known.{IsCounted, AreCounted}
-use Rattle.net_savings.specs.Saving.{literals_in, LeavesNarrow}
+use Rattle.net_savings.specs.Saving.{LeavesNarrow}
 use Rattle.net_savings.proofs.Slots.{all_set}
 
 -- ---- tables are added and change

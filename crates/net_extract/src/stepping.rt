@@ -12,13 +12,13 @@ ghost use Rattle.std.specs.Prelude.{◌≡◌, ◌≤◌, ◌<◌, true, false, 
 ghost use Rattle.std.specs.List.{AllByRecursion};
 ghost use Rattle.circuit_model.specs.Names.{all_different};
 ghost use Rattle.circuit_model.specs.Soundness.{IsSound};
+ghost use Rattle.net_candidates.specs.Candidates.{literals_in};
 ghost use Rattle.net_candidates.specs.Extracting.{IsDone};
 ghost use Rattle.net_core.specs.Places.{written_of};
 ghost use Rattle.net_core.specs.Reads.{IsBounded};
 ghost use Rattle.net_core.specs.Tables.{IsOverInputs};
 ghost use Rattle.alg_tables.specs.Dividing.{divided};
 ghost use Rattle.net_work.specs.Placed.{standing, circuit_of, table_at, with_slot};
-ghost use Rattle.net_savings.specs.Saving.{literals_in};
 ghost use Rattle.net_extract.specs.Dividing.{divided_slot, with_divided, IsMade, IsMadeAt, IsAdded};
 ghost use Rattle.net_extract.specs.Going.{IsStopped, IsNotAdded, IsPut, IsTaken};
 ghost use Rattle.net_extract.specs.Known.{AreCounted, AreSaved, StaySaved};

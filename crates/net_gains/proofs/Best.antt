@@ -1,5 +1,5 @@
 -- The first cover of a ranking by numbers that passes is the first by names.
-use Rattle.std.proofs.Common.{◌≡◌, ℕ, ◌+◌, ◌-◌, ◌<◌, ◌≤◌, zero, suc, true, Option, Some, List, [], ◌∷◌, map, nat_cmp, Ordering, Less, Equal, Greater, refl, sym, ap, ap₂, ◌∙◌, subst, inl, inr, arith}
+use Rattle.std.proofs.Common.{◌≡◌, ℕ, ◌+◌, ◌-◌, ◌<◌, ◌≤◌, zero, suc, true, Option, Some, List, [], ◌∷◌, map, nat_cmp, Ordering, Less, Equal, Greater, refl, sym, ap, ap₂, ◌∙◌, subst, arith}
 use Rattle.std.specs.List.{AllByRecursion, sum_by}
 use Rattle.std.specs.declared.cmp.Reverse.{Reverse}
 use Rattle.std.proofs.lemmas.Cmp.{ranked}
@@ -10,11 +10,11 @@ use Rattle.net_gains.specs.Divisors.{cover_of, divisor_cmp}
 use Rattle.net_gains.specs.Orders.{divisor_eq, saving_cmp}
 use Rattle.net_gains.specs.Totals.{total_of, total_at, rank_of}
 use Rattle.net_gains.specs.declared.divisor.Divisor.{Divisor}
-use Rattle.net_candidates.proofs.Usable.{all_pair}
+use Rattle.net_candidates.specs.Candidates.{literals_in}
+use Rattle.net_candidates.proofs.Usable.{all_member, all_pair}
 use Rattle.cover_names.specs.Literals.{Cube, NamedCover, cover_cmp}
-use Rattle.net_gains.specs.Gains.{over_pairs, literals_in, sum_gain, product_gain, gains}
+use Rattle.net_gains.specs.Gains.{over_pairs, sum_gain, product_gain, gains}
 use Rattle.net_gains.proofs.Found.{some_item, some_pair, partners_gain, product_is, gaining_literal}
-use Rattle.alg_div.specs.Cubes.{Has}
 use Rattle.net_gains.specs.Codes.{AreRising, coded, are_coded}
 use Rattle.net_gains.proofs.Coded.{Known, KnownCube, KnownCover, cover_known, known_cover, sum_known, codes_gains, codes_literals, covers_keep, gaining_coded}
 use Rattle.net_gains.proofs.Noting.{cover_is, divisor_of}
@@ -26,10 +26,6 @@ use Rattle.net_gains.proofs.Decoded.{cubes_known}
 
 -- ---- what gains in known cubes is known
 
-all_in : {X : Type 0} (P : X → Type 0) (xs : List X) → AllByRecursion P xs → (x : X) → Has x xs → P x
-all_in P [] all x m = absurd m
-all_in P (first ∷ xs) all x m = elim m as (λ _. P x) [ inl e ↦ subst P (sym e) all.0 | inr n ↦ all_in P xs all.1 x n ]
-
 module _ (names : List (List ℕ)) (rising : AreRising names) where
   gaining_known : (cover : NamedCover) (cubes : List Cube) → KnownCover names cubes → 0 < gains cover cubes → KnownCover names cover
   unfolding gains
@@ -39,7 +35,7 @@ module _ (names : List (List ℕ)) (rising : AreRising names) where
       cases zero e =
           let (cube, among, gain) = some_item (over_pairs (product_gain cover)) cubes (omega (arith, h, e)) in
           let found = some_pair (product_gain cover) cube gain in
-          let both = all_pair (Known names) cube found.one found.other (all_in (KnownCube names) cubes all cube among) found.pair in
+          let both = all_pair (Known names) cube found.one found.other (all_member (KnownCube names) cubes all cube among) found.pair in
           subst (KnownCover names) (sym (product_is cover found.one found.other found.gains)) ((both.0, (both.1, tt)), tt)
       cases (suc n) e =
           let found = some_pair (sum_gain cover) cubes (omega (arith, e)) in

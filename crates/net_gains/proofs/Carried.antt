@@ -1,5 +1,5 @@
 -- What a map that keeps an order carries over: comparisons of lists, rising and sorted lists, and
--- the items that another list has too.
+-- items whose summands are above 0.
 use Rattle.std.proofs.Common.{◌≡◌, ℕ, ◌+◌, ◌<◌, zero, suc, Bool, true, false, ◌||◌, cond, List, [], ◌∷◌, map, Ordering, Less, Equal, Greater, refl, sym, ap, ap₂, ◌∙◌, subst, arith, inl, inr}
 use Rattle.std.specs.Cmp.{IsTotalOrder}
 use Rattle.std.specs.Cmp.Lexicographic.{slice_cmp}
@@ -30,14 +30,6 @@ test_from_all test P to (x ∷ xs) all = and_from (test x) (list_all test xs) (t
 pub all_has : {X : Type 0} (P : X → Type 0) (xs : List X) → AllByRecursion P xs → (x : X) → Has x xs → P x
 all_has P [] all x m = absurd m
 all_has P (first ∷ xs) all x m = elim m as (λ _. P x) [ inl e ↦ subst P (sym e) all.0 | inr n ↦ all_has P xs all.1 x n ]
-
-pub all_filter : {X : Type 0} (P : X → Type 0) (test : X → Bool) (xs : List X) → AllByRecursion P xs → AllByRecursion P (filter test xs)
-all_filter P test [] all = tt
-all_filter {X} P test (x ∷ xs) all = cases (test x) (all_filter P test xs all.1)
-  where
-    cases : (b : Bool) → AllByRecursion P (filter test xs) → AllByRecursion P (cond {A = List X} b (x ∷ filter test xs) (filter test xs))
-    cases true rest = (all.0, rest)
-    cases false rest = rest
 
 pub all_put : {X : Type 0} (P : X → Type 0) (cmp : X → X → Ordering) (item : X) (xs : List X) → P item → AllByRecursion P xs → AllByRecursion P (put_in cmp item xs)
 unfolding put_in
@@ -118,15 +110,7 @@ module _ {X Y : Type 0} (known : X → Type 0) (f : X → Y) where
   map_sum p q agree [] all = refl
   map_sum p q agree (x ∷ xs) all = sum_by-cons q (f x) (map f xs) ∙ ap₂ (λ (m n : ℕ). m + n) (agree x all.0) (map_sum p q agree xs all.1) ∙ sym (sum_by-cons p x xs)
 
--- ---- the items of lists
-
-pub has_mapped : {X Y : Type 0} (f : X → Y) (xs : List X) (y : Y) → Has y (map f xs) → (x : X) × Has x xs × (y ≡ f x)
-has_mapped f [] y m = absurd m
-has_mapped {X} f (first ∷ xs) y m =
-    elim m as (λ _. (x : X) × Has x (first ∷ xs) × (y ≡ f x)) [
-      | inl e ↦ (first, inl refl, e)
-      | inr n ↦ (let p = has_mapped f xs y n in (p.0, inr p.1, p.2))
-    ]
+-- ---- sums
 
 -- a sum above 0 has an item whose summand is above 0
 pub some_counts : {X : Type 0} (g : X → ℕ) (xs : List X) → 0 < sum_by g xs → (x : X) × Has x xs × (0 < g x)

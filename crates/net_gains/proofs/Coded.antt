@@ -8,18 +8,20 @@ use Rattle.std.proofs.lemmas.Cmp.{nat_cmp_total, ranked}
 use Rattle.std.proofs.lemmas.List.{length-map}
 use Rattle.std.proofs.lemmas.List.Sums.{sum_by-cons}
 use Rattle.circuit_model.specs.Names.{has}
+use Rattle.circuit_laws.proofs.Sound.{all_filter}
 use Rattle.net_gains.specs.CodedGains.{numbers_cmp, lists_cmp, same_lists, shared as shared_numbers, own as own_numbers, is_one as is_empty, sum_of_two as sum_of_lists, sum_gain as sum_gain_of, product_gain as product_gain_of, gains as gains_of}
-use Rattle.net_candidates.specs.Candidates.{same_literal, shared, own}
+use Rattle.net_candidates.specs.Candidates.{same_literal, shared, own, literals_in}
 use Rattle.cover_names.specs.Literals.{Cube, NamedCover, literal_cmp, cube_cmp, cover_cmp, sorted}
 use Rattle.cover_names.specs.Cubes.{is_over}
 use Rattle.cover_names.specs.Orders.{literal_ties}
 use Rattle.cover_names.specs.declared.literal.Literal.{Literal}
+use Rattle.cover_names.proofs.Back.{has_map}
 use Rattle.cover_names.proofs.Members.{Has}
 use Rattle.cover_names.proofs.Orders.{IsOrder, lists_order}
-use Rattle.net_gains.specs.Gains.{over_pairs, same_cover, is_one, sum_of_two, sum_gain, product_gain, gains, literals_in}
+use Rattle.net_gains.specs.Gains.{over_pairs, same_cover, is_one, sum_of_two, sum_gain, product_gain, gains}
 use Rattle.net_gains.specs.Codes.{AreRising, code_of, codes_of, coded, is_known, is_code, are_codes, are_coded}
 use Rattle.net_gains.proofs.Places.{codes_keep_order, code_below}
-use Rattle.net_gains.proofs.Carried.{Keeps, all_from_test, test_from_all, all_has, all_filter, all_sorted, lists_keep, map_sorted, map_filter, map_any, map_sum, has_mapped, some_counts}
+use Rattle.net_gains.proofs.Carried.{Keeps, all_from_test, test_from_all, all_has, all_sorted, lists_keep, map_sorted, map_filter, map_any, map_sum, some_counts}
 
 pub number_order : IsOrder nat_cmp
 number_order = record { total = nat_cmp_total; same = λ x y h. ranked x y Equal (sym h) }
@@ -199,8 +201,8 @@ module _ (names : List (List ℕ)) (rising : AreRising names) where
   coded_sum : (numbers : List (List ℕ)) (cubes : List Cube) → KnownCover names cubes → 0 < over_pairs (sum_gain_of numbers) (coded names cubes) → are_coded names numbers ≡ true
   coded_sum numbers cubes all h =
       let p = some_pair (sum_gain_of numbers) (coded names cubes) h in
-      let one = has_mapped (codes_of names) cubes p.0 p.2 in
-      let other = has_mapped (codes_of names) cubes p.1 p.3 in
+      let one = has_map (codes_of names) cubes p.0 p.2 in
+      let other = has_map (codes_of names) cubes p.1 p.3 in
       let first : KnownCube names one.0 = all_has (KnownCube names) cubes all one.0 one.1 in
       let second : KnownCube names other.0 = all_has (KnownCube names) cubes all other.0 other.1 in
       let is : numbers ≡ coded names (sum_of_two one.0 other.0) = sum_told numbers p.0 p.1 p.4 ∙ ap₂ sum_of_lists one.2 other.2 ∙ sym (codes_sum one.0 other.0 first second) in
@@ -209,11 +211,11 @@ module _ (names : List (List ℕ)) (rising : AreRising names) where
   coded_product : (numbers : List (List ℕ)) (cubes : List Cube) → KnownCover names cubes → 0 < sum_by (over_pairs (product_gain_of numbers)) (coded names cubes) → are_coded names numbers ≡ true
   coded_product numbers cubes all h =
       let p = some_counts (over_pairs (product_gain_of numbers)) (coded names cubes) h in
-      let cube = has_mapped (codes_of names) cubes p.0 p.1 in
+      let cube = has_map (codes_of names) cubes p.0 p.1 in
       let known : KnownCube names cube.0 = all_has (KnownCube names) cubes all cube.0 cube.1 in
       let q = some_pair (product_gain_of numbers) p.0 p.2 in
-      let one = has_mapped (code_of names) cube.0 q.0 (subst (Has q.0) cube.2 q.2) in
-      let other = has_mapped (code_of names) cube.0 q.1 (subst (Has q.1) cube.2 q.3) in
+      let one = has_map (code_of names) cube.0 q.0 (subst (Has q.0) cube.2 q.2) in
+      let other = has_map (code_of names) cube.0 q.1 (subst (Has q.1) cube.2 q.3) in
       let is : numbers ≡ coded names ((one.0 ∷ other.0 ∷ []) ∷ []) = product_told numbers q.0 q.1 q.4 ∙ ap₂ (λ (m n : ℕ). (m ∷ n ∷ []) ∷ []) one.2 other.2 in
       ap (are_coded names) is
       ∙ coded_known names ((one.0 ∷ other.0 ∷ []) ∷ [])
@@ -229,7 +231,7 @@ module _ (names : List (List ℕ)) (rising : AreRising names) where
       cases (suc n) e = coded_sum numbers cubes all (omega (arith, e))
 
 -- a coded cover has as many literals as the cover
-pub codes_literals : (names : List (List ℕ)) (cover : NamedCover) → literals_in (coded names cover) ≡ sum_by length cover
+pub codes_literals : (names : List (List ℕ)) (cover : NamedCover) → literals_in (coded names cover) ≡ literals_in cover
 codes_literals names [] = refl
 codes_literals names (cube ∷ cover) =
     sum_by-cons length (codes_of names cube) (coded names cover) ∙ ap₂ (λ (m n : ℕ). m + n) (length-map cube (code_of names)) (codes_literals names cover) ∙ sym (sum_by-cons length cube cover)

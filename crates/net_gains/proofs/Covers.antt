@@ -6,8 +6,8 @@ use Rattle.std.proofs.lemmas.Bool.{and_parts, and_from, false≢true, false_from
 use Rattle.std.proofs.lemmas.Cmp.{tied_itself}
 use Rattle.std.proofs.lemmas.List.Sums.{sum_by-cons}
 use Rattle.alg_div.specs.Cubes.{Has}
-use Rattle.net_candidates.specs.Candidates.{shared, own}
-use Rattle.net_candidates.proofs.Divisors.{has_in, in_has, literals_in}
+use Rattle.net_candidates.specs.Candidates.{shared, own, literals_in}
+use Rattle.net_candidates.proofs.Divisors.{has_in, in_has}
 use Rattle.net_candidates.proofs.Local.{own_has, IsSum}
 use Rattle.cover_names.specs.Literals.{Cube, NamedCover, cube_cmp, cover_cmp, put_by, put_in, sorted}
 use Rattle.cover_names.specs.declared.literal.Literal.{Literal}
@@ -73,9 +73,9 @@ unfolding sorted put_in
 two_literals one other apart = cases (cube_cmp one other) refl
   where
     cases : (o : Ordering) → cube_cmp one other ≡ o → literals_in (put_by o one other [] (one ∷ [])) ≡ length one + length other
-    cases Less e = omega (arith, sum_by-cons (λ (x : Cube). length x) one (other ∷ []), sum_by-cons (λ (x : Cube). length x) other [])
+    cases Less e = omega (arith, sum_by-cons length one (other ∷ []), sum_by-cons length other [])
     cases Equal e = absurd (apart (cube_order.same one other e))
-    cases Greater e = omega (arith, sum_by-cons (λ (x : Cube). length x) other (one ∷ []), sum_by-cons (λ (x : Cube). length x) one [])
+    cases Greater e = omega (arith, sum_by-cons length other (one ∷ []), sum_by-cons length one [])
 
 pub two_long : (one other : Cube) → (one ≡ other → ⊥) → length (sorted cube_cmp (one ∷ other ∷ [])) ≡ 2
 unfolding sorted put_in

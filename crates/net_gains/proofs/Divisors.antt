@@ -4,7 +4,7 @@ use Rattle.std.specs.Ordering.{ordering_reverse}
 use Rattle.std.specs.Cmp.Lexicographic.{nat_list_cmp_total}
 use Rattle.std.proofs.lemmas.Bool.{false≢true}
 use Rattle.cover_names.specs.Literals.{put_by, put_in, sorted}
-use Rattle.net_gains.specs.Gains.{literals_in}
+use Rattle.net_candidates.specs.Candidates.{literals_in}
 use Rattle.net_gains.specs.CodedGains.{numbers_cmp, is_one}
 use Rattle.net_gains.specs.Divisors.{cover_with, Sums}
 use Rattle.net_gains.specs.declared.divisor.Divisor.{Divisor}

@@ -4,9 +4,8 @@ use Rattle.std.specs.List.{sum_by}
 use Rattle.std.proofs.lemmas.List.Sums.{sum_by-cons}
 use Rattle.circuit_model.specs.declared.circuit.Table.{Table}
 use Rattle.alg_div.specs.Cubes.{Has}
-use Rattle.net_candidates.specs.Candidates.{ArePair, own, cubes_of, IsDivisorOfTwoCubes, IsCubeOfTwoLiterals, IsCandidate}
+use Rattle.net_candidates.specs.Candidates.{ArePair, own, cubes_of, IsDivisorOfTwoCubes, IsCubeOfTwoLiterals, IsCandidate, literals_in}
 use Rattle.net_candidates.specs.declared.rule.Rule.TheVariants.{Fx}
-use Rattle.net_candidates.proofs.Divisors.{literals_in}
 use Rattle.net_candidates.proofs.Sums.{has_split}
 use Rattle.cover_names.specs.Literals.{Cube, NamedCover}
 use Rattle.cover_names.specs.declared.literal.Literal.{Literal}

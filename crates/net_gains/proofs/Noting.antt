@@ -10,7 +10,7 @@ use Rattle.std.specs.Prelude.{nat_eq, unwrap_or}
 use Rattle.std.specs.declared.cmp.Ordering.{Ordering}
 use Rattle.std.proofs.lemmas.Map.Lookups.{exact_unsigned}
 use Rattle.cover_names.proofs.Orders.{same_lists as exact_lists}
-use Rattle.net_gains.specs.Gains.{literals_in}
+use Rattle.net_candidates.specs.Candidates.{literals_in}
 use Rattle.net_gains.specs.Divisors.{cover_with, cover_of}
 use Rattle.net_gains.specs.CodedGains.{numbers_cmp, lists_cmp, same_lists}
 use Rattle.net_gains.specs.Orders.{divisor_eq, divisor_ties, divisor_total}

@@ -6,7 +6,7 @@ use Rattle.std.specs.Prelude.{unwrap_or}
 use Rattle.std.specs.declared.cmp.Reverse.{Reverse}
 use Rattle.std.proofs.lemmas.Bool.{false≢true, lt-ltb}
 use Rattle.std.proofs.lemmas.Option.{none-some, same_Some}
-use Rattle.net_gains.specs.Gains.{literals_in}
+use Rattle.net_candidates.specs.Candidates.{literals_in}
 use Rattle.net_gains.specs.Divisors.{cover_with, cover_of, divisor_cmp}
 use Rattle.net_gains.specs.CodedGains.{numbers_cmp, lists_cmp}
 use Rattle.net_gains.specs.Orders.{divisor_eq, divisor_ties, divisor_total, divisors_exact}

@@ -12,8 +12,7 @@ use Rattle.alg_div.specs.Quotient.{IsTerm, IsQuotient}
 use Rattle.alg_div.proofs.Laws.{quotient-terms}
 use Rattle.alg_div.proofs.Lists.{Has-map}
 use Rattle.alg_div.proofs.Terms.{width-has}
-use Rattle.net_candidates.specs.Candidates.{shared, own}
-use Rattle.net_candidates.proofs.Divisors.{literals_in}
+use Rattle.net_candidates.specs.Candidates.{shared, own, literals_in}
 use Rattle.net_candidates.proofs.Local.{cube_of, own_has, own_made, IsSum}
 use Rattle.net_candidates.proofs.Products.{quotient_once, product_tells}
 use Rattle.net_candidates.proofs.Sums.{AreOnce}

@@ -14,9 +14,9 @@ use Rattle.circuit_model.specs.declared.circuit.Circuit.{Circuit}
 use Rattle.cube_cover.specs.Literals.{row_literals}
 use Rattle.alg_div.specs.Cubes.{Has}
 use Rattle.alg_div.specs.Quotient.{IsQuotient}
-use Rattle.net_candidates.specs.Candidates.{own, cubes_of, IsCandidate}
+use Rattle.net_candidates.specs.Candidates.{own, cubes_of, IsCandidate, literals_in}
 use Rattle.net_candidates.specs.declared.rule.Rule.TheVariants.{Fx}
-use Rattle.net_candidates.proofs.Divisors.{literals_in, IsProperCube}
+use Rattle.net_candidates.proofs.Divisors.{IsProperCube}
 use Rattle.net_candidates.proofs.Gains.{IsDivided, divided_or_not}
 use Rattle.net_candidates.proofs.Local.{cube_of, IsSum, sum_of}
 use Rattle.net_candidates.proofs.Products.{literals_in_all, firsts_once}
@@ -142,7 +142,7 @@ module _ (names : List (List ℕ)) (once : all_different names ≡ true) (rows :
       → (is_over names (both one other) ≡ true → IsProperCube names (one ∷ other ∷ [])) → AreGains (both one other) names rows q
   product_gains one other q is below proper = record {
     inside = λ over.
-        let two : literals_in (both one other) ≡ 2 = omega (arith, sum_by-cons (λ (x : Cube). length x) (one ∷ other ∷ []) []) in
+        let two : literals_in (both one other) ≡ 2 = omega (arith, sum_by-cons length (one ∷ other ∷ []) []) in
         product_inside (pair_sum (both one other) names rows) (row_sum (both one other) names rows) (literals_in_all q) (length q) (literals_in (both one other)) (length (both one other))
         (no_pair_sum (both one other) names rows refl) (product_rows one other names once rows wide (proper over) q is below rows_once) two refl;
     outside = λ out.

@@ -15,10 +15,6 @@ unfoldable pub over_pairs : {X : Type 0} → (X → X → ℕ) → List X → �
 over_pairs gain [] = 0
 over_pairs gain (item ∷ items) = sum_by (gain item) items + over_pairs gain items
 
--- the number of literals of a cover
-abbrev pub literals_in : {X : Type 0} → List (List X) → ℕ
-literals_in cover = sum_by length cover
-
 -- the same cover
 abbrev pub same_cover : NamedCover → NamedCover → Bool
 same_cover one other = is_eq (cover_cmp one other)

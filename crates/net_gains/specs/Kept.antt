@@ -9,7 +9,8 @@ use Rattle.std.specs.declared.cmp.Ordering.TheVariants.{Less}
 use Rattle.circuit_model.specs.Names.{has}
 use Rattle.circuit_model.specs.declared.circuit.Table.{Table}
 use Rattle.cover_names.specs.Literals.{Cube, NamedCover, cover_cmp}
-use Rattle.net_gains.specs.Gains.{literals_in, gains}
+use Rattle.net_candidates.specs.Candidates.{literals_in}
+use Rattle.net_gains.specs.Gains.{gains}
 use Rattle.circuit_tables.specs.Tidy.{rows_differ}
 
 -- names, and the cubes of each table's rows

@@ -8,7 +8,7 @@ use Rattle.std.specs.List.Sorted.{IsStrictlySortedBy}
 use Rattle.std.specs.Map.{lookup}
 use Rattle.std.specs.Ordering.{nat_cmp}
 use Rattle.std.specs.declared.cmp.Reverse.{Reverse}
-use Rattle.net_gains.specs.Gains.{literals_in}
+use Rattle.net_candidates.specs.Candidates.{literals_in}
 use Rattle.net_gains.specs.CodedGains.{same_lists}
 use Rattle.net_gains.specs.Divisors.{cover_of}
 use Rattle.net_gains.specs.Orders.{divisor_eq}

@@ -3,17 +3,16 @@
 //! What holds of literals, cubes and covers holds of their numbers: order, sorting, common and
 //! remaining literals, and gains. Names must rise and be known.
 
-ghost use Rattle.std.specs.Prelude.{◌≡◌, ◌<◌, ℕ, true, List, length};
-ghost use Rattle.std.specs.List.{sum_by};
+ghost use Rattle.std.specs.Prelude.{◌≡◌, ◌<◌, ℕ, true, List};
 ghost use Rattle.std.specs.List.Sorted.{IsStrictlySortedBy};
 ghost use Rattle.std.specs.Ordering.{nat_cmp};
 ghost use Rattle.circuit_model.specs.Names.{has};
 ghost use Rattle.net_gains.specs.CodedGains.{numbers_cmp, lists_cmp, shared as shared_numbers, own as own_numbers, sum_of_two as sum_of_lists, gains as gains_of};
-ghost use Rattle.net_candidates.specs.Candidates.{shared, own};
+ghost use Rattle.net_candidates.specs.Candidates.{shared, own, literals_in};
 ghost use Rattle.cover_names.specs.Cubes.{is_over};
 ghost use Rattle.cover_names.specs.Literals.{Cube, NamedCover, literal_cmp, cube_cmp, cover_cmp, sorted};
 ghost use Rattle.cover_names.specs.declared.literal.Literal.{Literal};
-ghost use Rattle.net_gains.specs.Gains.{sum_of_two, gains, literals_in};
+ghost use Rattle.net_gains.specs.Gains.{sum_of_two, gains};
 ghost use Rattle.net_gains.specs.Codes.{AreRising, code_of, codes_of, coded, is_known, is_code, are_coded};
 
 /// Numbers have the order of their literals, and lists of numbers that of cubes and covers.
@@ -78,8 +77,8 @@ pub fn numbers_keep_gains()
     ensures gains { (names : List (List ℕ)) (cover : NamedCover) (cubes : List Cube)
         → AreRising names → is_over names cover ≡ true → is_over names cubes ≡ true
         → gains_of (coded names cover) (coded names cubes) ≡ gains cover cubes }
-    ensures literals { (names : List (List ℕ)) (cover : NamedCover) → literals_in
-        (coded names cover) ≡ sum_by length cover }
+    ensures literals { (names : List (List ℕ)) (cover : NamedCover)
+        → literals_in (coded names cover) ≡ literals_in cover }
     ensures covers { (names : List (List ℕ)) (numbers : List (List ℕ)) (cubes : List Cube)
         → AreRising names → is_over names cubes ≡ true
         → 0 < gains_of numbers (coded names cubes) → are_coded names numbers ≡ true }

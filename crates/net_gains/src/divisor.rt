@@ -7,7 +7,7 @@
 //! their own.
 
 ghost use Rattle.std.specs.Prelude.{◌≡◌, ◌+◌, ◌∷◌, [], map, length, IfOk};
-ghost use Rattle.net_gains.specs.Gains.{literals_in};
+ghost use Rattle.net_candidates.specs.Candidates.{literals_in};
 ghost use Rattle.net_gains.specs.Divisors.{cover_of, Sums};
 
 use crate::comparing::compared;

@@ -5,7 +5,7 @@
 
 ghost use Rattle.std.specs.Prelude.{◌≡◌, ◌≤◌, IfOk, MatchOption};
 ghost use Rattle.net_gains.specs.Divisors.{cover_of};
-ghost use Rattle.net_gains.specs.Gains.{literals_in};
+ghost use Rattle.net_candidates.specs.Candidates.{literals_in};
 ghost use Rattle.net_gains.specs.Numbers.{Fails, DoesPass};
 
 use crate::SharedDivisor;

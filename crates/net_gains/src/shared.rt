@@ -8,7 +8,7 @@
 
 ghost use Rattle.std.specs.Prelude.{◌≡◌, map, IfOk};
 ghost use Rattle.net_gains.specs.Divisors.{cover_of};
-ghost use Rattle.net_gains.specs.Gains.{literals_in};
+ghost use Rattle.net_candidates.specs.Candidates.{literals_in};
 
 use crate::divisor::Divisor;
 use indexmap::Equivalent;

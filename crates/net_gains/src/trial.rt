@@ -2,7 +2,7 @@
 
 ghost use Rattle.std.specs.Prelude.{◌≡◌, ◌≤◌, true, false, IfOk};
 ghost use Rattle.cover_names.specs.Literals.{NamedCover};
-ghost use Rattle.net_gains.specs.Gains.{literals_in};
+ghost use Rattle.net_candidates.specs.Candidates.{literals_in};
 
 use cover_names::NamedCover;
 use std::alloc::{AllocError, Global};

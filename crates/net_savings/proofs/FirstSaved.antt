@@ -8,7 +8,7 @@ use Rattle.circuit_model.specs.Soundness.{given, IsSound}
 use Rattle.circuit_model.specs.declared.circuit.Table.{Table}
 use Rattle.alg_div.specs.Cubes.{Has}
 use Rattle.net_candidates.specs.Listed.{IsOwn}
-use Rattle.net_candidates.specs.Candidates.{IsSharedCube, IsCandidate}
+use Rattle.net_candidates.specs.Candidates.{IsSharedCube, IsCandidate, literals_in}
 use Rattle.net_candidates.specs.Extracting.{IsListable, IsNext, IsDone}
 use Rattle.net_candidates.specs.declared.rule.Rule.{Rule}
 use Rattle.net_candidates.specs.declared.rule.Rule.TheVariants.{Gcx}
@@ -25,7 +25,7 @@ use Rattle.net_savings.proofs.Best.{IsBestOf}
 use Rattle.net_savings.proofs.SameCovers.{cover_same, cover_itself}
 use Rattle.net_savings.specs.Listing.{AreKept, AreOwn, IsListed}
 use Rattle.net_savings.specs.Sharing.{IsSharedBy}
-use Rattle.net_savings.specs.Saving.{literals_in, IsSaving}
+use Rattle.net_savings.specs.Saving.{IsSaving}
 use Rattle.net_savings.specs.Savings.{IsNoted, IsRight, AreNotes, IsIn, held_at}
 use Rattle.net_savings.proofs.Owning.{own_candidate, candidate_either, shared_candidate, own_over}
 use Rattle.net_savings.proofs.Sharers.{shared_at_places}

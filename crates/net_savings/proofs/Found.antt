@@ -5,7 +5,7 @@ use Rattle.std.proofs.lemmas.Bool.{cases_lt}
 use Rattle.circuit_model.specs.Counts.{literals_of_table}
 use Rattle.circuit_model.specs.Soundness.{given, IsSound}
 use Rattle.circuit_model.specs.declared.circuit.Circuit.{Circuit}
-use Rattle.net_candidates.specs.Candidates.{IsCandidate}
+use Rattle.net_candidates.specs.Candidates.{IsCandidate, literals_in}
 use Rattle.net_candidates.specs.Extracting.{IsListable, IsOpen, IsNext, IsDone}
 use Rattle.net_candidates.specs.declared.rule.Rule.{Rule}
 use Rattle.net_candidates.proofs.Divisors.{cover_table_literals}
@@ -15,7 +15,7 @@ use Rattle.net_candidates.proofs.Usable.{tables_read, candidate_usable}
 use Rattle.cover_names.specs.Literals.{NamedCover, cover_cmp}
 use Rattle.net_core.specs.Fresh.{IsNewName}
 use Rattle.alg_tables.specs.Dividing.{cover_table}
-use Rattle.net_savings.specs.Saving.{literals_in, IsSaving}
+use Rattle.net_savings.specs.Saving.{IsSaving}
 
 module _ (rule : Rule) (circuit : Circuit) (name : List ℕ) (sound : IsSound circuit) (new : IsNewName circuit name) where
   -- a candidate has a literal

@@ -1,12 +1,11 @@
 -- The savings of candidates, kept while tables are added and change.
-use Rattle.std.proofs.Common.{◌≡◌, ◌||◌, ℕ, ◌+◌, ◌<◌, ◌==◌, zero, suc, Bool, true, false, Option, Some, None, List, [], ◌∷◌, ◌++◌, length, get_or, take, set, slice_get, bytes_eq, if◌then◌else◌, refl, sym, ap, ap₂, ◌∙◌, subst, inl, inr, arith}
+use Rattle.std.proofs.Common.{◌≡◌, ◌||◌, ℕ, ◌+◌, ◌<◌, ◌==◌, zero, suc, Bool, true, false, Option, Some, None, List, [], ◌∷◌, ◌++◌, length, get_or, take, set, slice_get, bytes_eq, if◌then◌else◌, refl, sym, ap, ◌∙◌, subst, inl, inr, arith}
 use Rattle.std.proofs.lemmas.Bool.{false≢true, eq-eqb, or_parts, or_cases, or_left, or_right, cases_lt}
 use Rattle.std.proofs.lemmas.List.{length-set, length-append}
-use Rattle.std.proofs.lemmas.List.Folds.{list_any-append}
 use Rattle.std.proofs.lemmas.Option.{none-some, same_Some}
 use Rattle.circuit_model.specs.declared.circuit.Table.{Table}
 use Rattle.circuit_model.specs.Names.{has}
-use Rattle.circuit_laws.proofs.Names.{has_neither, same_name, name_itself}
+use Rattle.circuit_laws.proofs.Names.{has_neither, has_none, same_name, name_itself}
 use Rattle.alg_div.specs.Cubes.{Has}
 use Rattle.net_candidates.specs.declared.rule.Rule.{Rule}
 use Rattle.net_readers.specs.Fanouts.{is_in}
@@ -17,6 +16,7 @@ use Rattle.net_savings.specs.Savings.{AreNotes}
 use Rattle.net_savings.proofs.KeptLists.{before, cleared, kept_set, kept_push, within}
 use Rattle.net_savings.proofs.Refreshed.{has_name_next}
 use Rattle.net_savings.proofs.Sharers.{shared_by_same}
+use Rattle.net_savings.proofs.Slots.{stands_below}
 use Rattle.net_savings.proofs.Untouched.{exact_after_set, exact_after_add}
 
 -- an index is neither among indices, nor the last of them
@@ -74,9 +74,6 @@ not_last (first ∷ slots) slot (suc at) table away e = not_last slots slot at t
 -- names among which are those of two lists
 abbrev pub IsUnion : List (List ℕ) → List (List ℕ) → List (List ℕ) → Type 0
 IsUnion one other both = (name : List ℕ) → has both name ≡ false → (has one name ≡ false) × (has other name ≡ false)
-
-neither : (one other : List (List ℕ)) (name : List ℕ) → has one name ≡ false → has other name ≡ false → has (one ++ other) name ≡ false
-neither one other name first second = list_any-append (bytes_eq name) one other ∙ ap₂ (λ (a b : Bool). a || b) first second
 
 -- a name that is added to a set
 pub put_away : (keys more : List (List ℕ)) (name query : List ℕ) → more ≡ (if has keys name then keys else keys ++ name ∷ []) → has more query ≡ false → (has keys query ≡ false) × (bytes_eq query name ≡ false)
@@ -179,8 +176,8 @@ module _ (rule : Rule) (now : Placed) (saving : NamedCover → Option ℕ) (unde
       (λ name away.
       (let second = two_is name away in
       let first = one_is name second.0 in
-      neither touched (old.inputs ++ new.inputs) name first.0
-      (neither old.inputs new.inputs name (subst (λ (names : List (List ℕ)). has names name ≡ false) old_is first.1) (subst (λ (names : List (List ℕ)). has names name ≡ false) new_is second.1))))
+      has_none touched (old.inputs ++ new.inputs) name first.0
+      (has_none old.inputs new.inputs name (subst (λ (names : List (List ℕ)). has names name ≡ false) old_is first.1) (subst (λ (names : List (List ℕ)). has names name ≡ false) new_is second.1))))
       (notes_set place old new there same)))
 
   pub notes_pushed : (new_own : List (Option (List NamedCover))) (names inputs : List (List ℕ)) (new_fresh : List ℕ) (long : ℕ) (new : Table) → new_own ≡ own ++ None ∷ [] → IsUnion touched inputs names → inputs ≡ new.inputs
@@ -191,7 +188,7 @@ module _ (rule : Rule) (now : Placed) (saving : NamedCover → Option ℕ) (unde
       (notes_more rule (with_last now new) saving under (own ++ None ∷ []) (touched ++ new.inputs) names (fresh ++ length now.slots ∷ [])
       (λ name away.
       (let parts = names_is name away in
-      neither touched new.inputs name parts.0 (subst (λ (ns : List (List ℕ)). has ns name ≡ false) inputs_is parts.1)))
+      has_none touched new.inputs name parts.0 (subst (λ (ns : List (List ℕ)). has ns name ≡ false) inputs_is parts.1)))
       (notes_add new)))
 
 -- no saving is set, and all indices are fresh
@@ -211,8 +208,3 @@ notes_begin rule now saving under own fresh nothing none long empty all = record
   shared = λ one other cover (covers, e) second by. absurd (empty one covers e);
   listed = λ at table stands away. absurd (false≢true (sym away ∙ all at (stands_below now.slots at table stands)));
 }
-  where
-    stands_below : (slots : List (Option Table)) (at : ℕ) (table : Table) → table_at slots at ≡ Some table → at < length slots
-    stands_below [] at table e = absurd (none-some table e)
-    stands_below (first ∷ slots) zero table e = omega arith
-    stands_below (first ∷ slots) (suc at) table e = let below : at < length slots = stands_below slots at table e in omega (arith, below)

@@ -1,26 +1,25 @@
 -- The tables whose rows may share two literals with rows of a given one, and what is listed of what
 -- they share.
-use Rattle.std.proofs.Common.{◌≡◌, ◌⊎◌, ℕ, ◌+◌, ◌<◌, ◌≤◌, eqb, eqb-true, true, false, Option, Some, None, List, [], ◌∷◌, ◌++◌, flat_map, length, take, get_or, bytes_eq, refl, sym, ap, ◌∙◌, subst, inl, inr, arith}
+use Rattle.std.proofs.Common.{◌≡◌, ◌⊎◌, ℕ, ◌+◌, ◌<◌, ◌≤◌, eqb, eqb-true, true, false, Option, Some, None, List, [], ◌∷◌, ◌++◌, flat_map, length, take, get_or, refl, sym, ap, ◌∙◌, subst, inl, inr, arith}
 use Rattle.std.proofs.lemmas.Bool.{or_cases, or_left, or_right, false≢true}
 use Rattle.std.proofs.lemmas.List.{take_more}
 use Rattle.std.proofs.lemmas.Bool.{eq-eqb}
 use Rattle.circuit_model.specs.Names.{has, all_different}
 use Rattle.circuit_model.specs.declared.circuit.Table.{Table}
-use Rattle.circuit_laws.proofs.Names.{same_name}
 use Rattle.alg_div.specs.Cubes.{Has}
 use Rattle.net_candidates.proofs.Made.{has_flat}
 use Rattle.net_candidates.proofs.SharedNames.{shared_besides}
 use Rattle.net_candidates.specs.Listed.{IsSharedWith}
-use Rattle.net_candidates.specs.Candidates.{cubes_of}
+use Rattle.net_candidates.specs.Candidates.{cubes_of, literals_in}
 use Rattle.net_candidates.specs.declared.rule.Rule.{Rule}
 use Rattle.net_candidates.specs.declared.rule.Rule.TheVariants.{Fx, Gkx, Gcx}
 use Rattle.net_readers.specs.Fanouts.{is_in}
 use Rattle.cover_names.specs.Literals.{Cube, NamedCover}
 use Rattle.net_work.specs.Placed.{table_at}
 use Rattle.net_savings.specs.Listing.{IsListed}
-use Rattle.net_savings.specs.Saving.{literals_in}
 use Rattle.net_savings.specs.Sharing.{cubes_in, AreSharers, IsSharedBy, AreSharedHere}
 use Rattle.net_savings.proofs.Sharers.{row_table, pair_none}
+use Rattle.net_savings.proofs.Refreshed.{has_name_next, in_last, in_next}
 
 -- ---- fanouts of all names but one
 
@@ -28,25 +27,11 @@ use Rattle.net_savings.proofs.Sharers.{row_table, pair_none}
 abbrev pub HaveReaders : List (Option Table) → List ℕ → List (List ℕ) → List ℕ → Type 0
 HaveReaders slots left names places = (at : ℕ) (table : Table) (name : List ℕ) → table_at slots at ≡ Some table → has table.inputs name ≡ true → has names name ≡ true → (name ≡ left → ⊥) → is_in places at ≡ true
 
-name_last : (names : List (List ℕ)) (last name : List ℕ) → has (names ++ last ∷ []) name ≡ true → (has names name ≡ true) ⊎ (name ≡ last)
-name_last [] last name h =
-    elim (or_cases (bytes_eq name last) false h) as (λ _. (has [] name ≡ true) ⊎ (name ≡ last)) [ inl e ↦ inr (same_name name last e) | inr n ↦ absurd (false≢true n) ]
-name_last (first ∷ names) last name h =
-    elim (or_cases (bytes_eq name first) (has (names ++ last ∷ []) name) h) as (λ _. (has (first ∷ names) name ≡ true) ⊎ (name ≡ last)) [
-      | inl e ↦ inl (or_left (bytes_eq name first) (has names name) e)
-      | inr n ↦ (elim (name_last names last name n) as (λ _. (has (first ∷ names) name ≡ true) ⊎ (name ≡ last)) [ inl k ↦ inl (or_right (bytes_eq name first) (has names name) k) | inr e ↦ inr e ])
-    ]
-
-next_name : (names : List (List ℕ)) (i : ℕ) (last d name : List ℕ) → i < length names → last ≡ get_or names i d → has (take (i + 1) names) name ≡ true → (has (take i names) name ≡ true) ⊎ (name ≡ last)
-next_name names i last d name below is h =
-    name_last (take i names) last name
-    (subst (λ (ns : List (List ℕ)). has ns name ≡ true) (take_more names i d below ∙ ap (λ (n : List ℕ). take i names ++ n ∷ []) (sym is)) h)
-
 -- the next name is the one left out
 pub readers_left : (slots : List (Option Table)) (left : List ℕ) (names : List (List ℕ)) (i : ℕ) (last d : List ℕ) (places : List ℕ) → i < length names → last ≡ get_or names i d → last ≡ left
     → HaveReaders slots left (take i names) places → HaveReaders slots left (take (i + 1) names) places
 readers_left slots left names i last d places below is same before at table name there reads h apart =
-    elim (next_name names i last d name below is h) as (λ _. is_in places at ≡ true) [
+    elim (has_name_next names i last d name below is h) as (λ _. is_in places at ≡ true) [
       | inl k ↦ before at table name there reads k apart
       | inr e ↦ absurd (apart (e ∙ same))
     ]
@@ -56,7 +41,7 @@ pub readers_more : (slots : List (Option Table)) (left : List ℕ) (names : List
     → HaveReaders slots left (take i names) places → ((at : ℕ) → is_in places at ≡ true → is_in new at ≡ true)
     → ((at : ℕ) (table : Table) → table_at slots at ≡ Some table → has table.inputs last ≡ true → is_in new at ≡ true) → HaveReaders slots left (take (i + 1) names) new
 readers_more slots left names i last d places new below is before still more at table name there reads h apart =
-    elim (next_name names i last d name below is h) as (λ _. is_in new at ≡ true) [
+    elim (has_name_next names i last d name below is h) as (λ _. is_in new at ≡ true) [
       | inl k ↦ still at (before at table name there reads k apart)
       | inr e ↦ more at table there (subst (λ (n : List ℕ). has table.inputs n ≡ true) e reads)
     ]
@@ -78,23 +63,10 @@ in_right (first ∷ places) more at h = or_right (eqb first at) (is_in (places +
 abbrev pub HaveListed : List (Option (List NamedCover)) → List ℕ → List ℕ → Type 0
 HaveListed own places listed = (at : ℕ) → is_in places at ≡ true → IsListed own at → is_in listed at ≡ true
 
-place_last : (places : List ℕ) (last at : ℕ) → is_in (places ++ last ∷ []) at ≡ true → (is_in places at ≡ true) ⊎ (last ≡ at)
-place_last [] last at h =
-    elim (or_cases (eqb last at) false h) as (λ _. (is_in [] at ≡ true) ⊎ (last ≡ at)) [ inl e ↦ inr (eqb-true last at e) | inr n ↦ absurd (false≢true n) ]
-place_last (first ∷ places) last at h =
-    elim (or_cases (eqb first at) (is_in (places ++ last ∷ []) at) h) as (λ _. (is_in (first ∷ places) at ≡ true) ⊎ (last ≡ at)) [
-      | inl e ↦ inl (or_left (eqb first at) (is_in places at) e)
-      | inr n ↦ (elim (place_last places last at n) as (λ _. (is_in (first ∷ places) at ≡ true) ⊎ (last ≡ at)) [ inl k ↦ inl (or_right (eqb first at) (is_in places at) k) | inr e ↦ inr e ])
-    ]
-
-next_place : (places : List ℕ) (i last d at : ℕ) → i < length places → last ≡ get_or places i d → is_in (take (i + 1) places) at ≡ true → (is_in (take i places) at ≡ true) ⊎ (last ≡ at)
-next_place places i last d at below is h =
-    place_last (take i places) last at (subst (λ (ps : List ℕ). is_in ps at ≡ true) (take_more places i d below ∙ ap (λ (n : ℕ). take i places ++ n ∷ []) (sym is)) h)
-
 pub listed_left : (own : List (Option (List NamedCover))) (places : List ℕ) (i last d : ℕ) (listed : List ℕ) → i < length places → last ≡ get_or places i d → (IsListed own last → ⊥)
     → HaveListed own (take i places) listed → HaveListed own (take (i + 1) places) listed
 listed_left own places i last d listed below is apart before at h k =
-    elim (next_place places i last d at below is h) as (λ _. is_in listed at ≡ true) [
+    elim (in_next places i last d at below is h) as (λ _. is_in listed at ≡ true) [
       | inl n ↦ before at n k
       | inr e ↦ absurd (apart (subst (λ (n : ℕ). IsListed own n) (sym e) k))
     ]
@@ -103,7 +75,7 @@ pub listed_more : (own : List (Option (List NamedCover))) (places : List ℕ) (i
     → HaveListed own (take i places) listed → HaveListed own (take (i + 1) places) new
 listed_more own places i last d listed new below is put before at h k =
     ap (λ (ps : List ℕ). is_in ps at) put
-    ∙ (elim (next_place places i last d at below is h) as (λ _. is_in (listed ++ last ∷ []) at ≡ true) [
+    ∙ (elim (in_next places i last d at below is h) as (λ _. is_in (listed ++ last ∷ []) at ≡ true) [
       | inl n ↦ in_left listed (last ∷ []) at (before at n k)
       | inr e ↦ in_right listed (last ∷ []) at (or_left (eqb last at) false (eq-eqb last at e))
     ])
@@ -128,7 +100,7 @@ only_left own places i last d listed below is before at h = let p = before at h 
 pub only_more : (own : List (Option (List NamedCover))) (places : List ℕ) (i last d : ℕ) (listed new : List ℕ) → i < length places → last ≡ get_or places i d → IsListed own last → new ≡ listed ++ last ∷ []
     → AreListedOf own (take i places) listed → AreListedOf own (take (i + 1) places) new
 only_more own places i last d listed new below is there put before at h =
-    elim (place_last listed last at (sym (ap (λ (ps : List ℕ). is_in ps at) put) ∙ h)) as (λ _. (is_in (take (i + 1) places) at ≡ true) × IsListed own at) [
+    elim (in_last listed last at (sym (ap (λ (ps : List ℕ). is_in ps at) put) ∙ h)) as (λ _. (is_in (take (i + 1) places) at ≡ true) × IsListed own at) [
       | inl n ↦ (let p = before at n in (next_in places i last d at below is (inl p.0), p.1))
       | inr e ↦ (next_in places i last d at below is (inr e), subst (λ (n : ℕ). IsListed own n) e there)
     ]

@@ -1,19 +1,20 @@
 -- A table that is divided reads the signal of the cover, and at most that one name in addition.
-use Rattle.std.proofs.Common.{◌≡◌, ℕ, ◌+◌, ◌≤◌, Bool, true, false, ◌||◌, Option, Some, List, [], ◌∷◌, ◌++◌, map, length, refl, sym, ap, ◌∙◌, subst, inl, inr, arith, bytes_eq}
+use Rattle.std.proofs.Common.{◌≡◌, ℕ, ◌+◌, ◌≤◌, Bool, true, false, ◌||◌, Option, Some, List, [], ◌∷◌, ◌++◌, length, refl, sym, ap, ◌∙◌, subst, arith}
 use Rattle.std.specs.List.{list_any}
-use Rattle.std.proofs.lemmas.Bool.{false≢true, or_cases}
+use Rattle.std.proofs.lemmas.Bool.{false≢true}
 use Rattle.std.proofs.lemmas.List.{map_push, length-append}
 use Rattle.circuit_model.specs.Counts.{is_literal}
 use Rattle.circuit_model.specs.Names.{has, all_different}
 use Rattle.circuit_model.specs.declared.circuit.Table.{Table}
 use Rattle.circuit_model.specs.declared.circuit.Tri.{Tri}
-use Rattle.circuit_laws.proofs.Names.{has_head, has_tail, same_name, apart_different, different_cons, different_none}
-use Rattle.net_candidates.proofs.Gains.{IsDivided, divided_where}
+use Rattle.circuit_laws.proofs.Names.{has_head, has_tail}
+use Rattle.circuit_laws.proofs.Sound.{one_more}
+use Rattle.net_candidates.proofs.Gains.{IsDivided, divided_where, some_joined}
 use Rattle.cover_names.specs.Literals.{NamedCover}
 use Rattle.net_core.specs.Tables.{character_of, characters_of}
 use Rattle.alg_tables.specs.Dividing.{rejoined, has_no_cube, divided}
-use Rattle.alg_tables.proofs.Divisions.{joined_rows, rows_of, divisor, found, rejoined_wide}
-use Rattle.circuit_tables.specs.Tidy.{IsWide, front_place, used_places, chosen, rows_once, narrowed, with_rows_once, some_row_or_phase_one}
+use Rattle.alg_tables.proofs.Divisions.{rows_of, divisor, found, rejoined_wide}
+use Rattle.circuit_tables.specs.Tidy.{IsWide, front_place, used_places, chosen, rows_once, narrowed, with_rows_once}
 use Rattle.circuit_tables.proofs.Tidied.{tidied_is, chosen_small}
 
 -- an input whose column is marked
@@ -64,29 +65,13 @@ narrowed_few name bit table d q =
     let few : length (narrowed (with_rows_once (rejoined name bit table d q))).inputs ≤ length (table.inputs ++ name ∷ []) = chosen_small _ (table.inputs ++ name ∷ []) in
     omega (arith, few, length-append table.inputs (name ∷ []))
 
-some_joined : (bit : Bool) (f d q : List (List (Option Bool))) (phase : Bool) → has_no_cube q ≡ false → some_row_or_phase_one (map characters_of (joined_rows bit f d q)) phase ≡ true
-some_joined bit f d [] phase h = absurd (false≢true (sym h))
-some_joined bit f d (cube ∷ q) phase h = refl
-
-one_more_different : (names : List (List ℕ)) (name : List ℕ) → all_different names ≡ true → has names name ≡ false → all_different (names ++ name ∷ []) ≡ true
-one_more_different names name once free =
-    apart_different names (name ∷ []) (record {
-      front = once;
-      back = different_cons name [] refl different_none;
-      between = λ other m n.
-          elim (or_cases (bytes_eq other name) false n) as (λ _. ⊥) [
-            | inl e ↦ false≢true (sym free ∙ subst (λ (x : List ℕ). has names x ≡ true) (same_name other name e) m)
-            | inr k ↦ false≢true k
-          ];
-    })
-
 module _ (name : List ℕ) (bit : Bool) (cover : NamedCover) (table : Table) (once : all_different table.inputs ≡ true) (free : has table.inputs name ≡ false) (is : IsDivided name bit cover table) where
   -- what it becomes has a row, and so is no constant
   pub divided_narrowed : divided name bit cover table ≡ narrowed (with_rows_once (rejoined name bit table (divisor name bit cover table) (found name bit cover table)))
   unfolding rejoined
   divided_narrowed =
       divided_where name bit cover table is
-      ∙ tidied_is (rejoined name bit table (divisor name bit cover table) (found name bit cover table)) (one_more_different table.inputs name once free)
+      ∙ tidied_is (rejoined name bit table (divisor name bit cover table) (found name bit cover table)) (one_more table.inputs name once free)
       (some_joined bit (rows_of name bit cover table) (divisor name bit cover table) (found name bit cover table) table.phase is.some)
 
   pub divided_reads_name : IsWide table → has (divided name bit cover table).inputs name ≡ true

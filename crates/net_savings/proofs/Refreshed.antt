@@ -11,6 +11,7 @@ use Rattle.circuit_model.specs.declared.circuit.Table.{Table}
 use Rattle.circuit_laws.proofs.Names.{has_either, same_name}
 use Rattle.alg_div.specs.Cubes.{Has}
 use Rattle.alg_div.proofs.Lists.{Has-append}
+use Rattle.net_candidates.specs.Candidates.{literals_in}
 use Rattle.net_candidates.specs.declared.rule.Rule.{Rule}
 use Rattle.net_readers.specs.Fanouts.{is_in}
 use Rattle.cover_names.specs.Literals.{Cube, NamedCover}
@@ -20,11 +21,10 @@ use Rattle.net_core.specs.Fresh.{IsNewName}
 use Rattle.net_work.specs.Placed.{Placed, standing, circuit_of, table_at}
 use Rattle.net_savings.specs.Ranking.{KnownCovers, saving_in, covers_under}
 use Rattle.net_savings.specs.Listing.{AreOwn, IsListed}
-use Rattle.net_savings.specs.Saving.{literals_in}
 use Rattle.net_savings.specs.Savings.{IsRight, IsNoted, AreNotes, IsGrown, AreTrue}
 use Rattle.net_savings.specs.Sharing.{IsSharedBy, AreSharedHere}
 use Rattle.net_savings.proofs.Sharers.{shared_by_turned}
-use Rattle.net_savings.proofs.Slots.{stands}
+use Rattle.net_savings.proofs.Slots.{stands, stands_below}
 use Rattle.net_savings.proofs.Found.{candidate_some}
 use Rattle.net_savings.proofs.Owning.{own_candidate}
 
@@ -50,8 +50,8 @@ pub named_literal : (cover : NamedCover) (name : List ℕ) → has (names_in cov
 named_literal [] name h = absurd (false≢true h)
 named_literal (cube ∷ cover) name h =
     elim (has_either (map (λ (literal : Literal). literal.name) cube) (names_in cover) name h) as (λ _. 1 ≤ literals_in (cube ∷ cover)) [
-      | inl m ↦ (let here : 1 ≤ length cube = some cube m in omega (arith, here, sum_by-cons (λ (c : Cube). length c) cube cover))
-      | inr m ↦ (let rest : 1 ≤ literals_in cover = named_literal cover name m in omega (arith, rest, sum_by-cons (λ (c : Cube). length c) cube cover))
+      | inl m ↦ (let here : 1 ≤ length cube = some cube m in omega (arith, here, sum_by-cons length cube cover))
+      | inr m ↦ (let rest : 1 ≤ literals_in cover = named_literal cover name m in omega (arith, rest, sum_by-cons length cube cover))
     ]
   where
     some : (cube : Cube) → has (map (λ (literal : Literal). literal.name) cube) name ≡ true → 1 ≤ length cube
@@ -77,15 +77,18 @@ has_name_next names i one d name below is h =
     one_name : has (one ∷ []) name ≡ true → name ≡ one
     one_name k = elim (or_cases (bytes_eq name one) false k) as (λ _. name ≡ one) [ inl e ↦ same_name name one e | inr none ↦ absurd (false≢true none) ]
 
-pub in_next : (places : List ℕ) (i place d at : ℕ) → i < length places → place ≡ get_or places i d → is_in (take (i + 1) places) at ≡ true → (is_in (take i places) at ≡ true) ⊎ (place ≡ at)
-in_next places i place d at below is h = in_last (take i places) (subst (λ (ps : List ℕ). is_in ps at ≡ true) (take_more places i d below ∙ ap (λ (p : ℕ). take i places ++ p ∷ []) (sym is)) h)
-  where
-    in_last : (ps : List ℕ) → is_in (ps ++ place ∷ []) at ≡ true → (is_in ps at ≡ true) ⊎ (place ≡ at)
-    in_last [] h = elim (or_cases (place == at) false h) as (λ _. (is_in [] at ≡ true) ⊎ (place ≡ at)) [ inl e ↦ inr (eqb-true place at e) | inr none ↦ absurd (false≢true none) ]
-    in_last (first ∷ ps) h = elim (or_cases (first == at) (is_in (ps ++ place ∷ []) at) h) as (λ _. (is_in (first ∷ ps) at ≡ true) ⊎ (place ≡ at)) [
-      | inl e ↦ inl (or_left (first == at) (is_in ps at) e)
-      | inr k ↦ elim (in_last ps k) as (λ _. (is_in (first ∷ ps) at ≡ true) ⊎ (place ≡ at)) [ inl n ↦ inl (or_right (first == at) (is_in ps at) n) | inr e ↦ inr e ]
+pub in_last : (places : List ℕ) (last at : ℕ) → is_in (places ++ last ∷ []) at ≡ true → (is_in places at ≡ true) ⊎ (last ≡ at)
+in_last [] last at h =
+    elim (or_cases (last == at) false h) as (λ _. (is_in [] at ≡ true) ⊎ (last ≡ at)) [ inl e ↦ inr (eqb-true last at e) | inr none ↦ absurd (false≢true none) ]
+in_last (first ∷ places) last at h =
+    elim (or_cases (first == at) (is_in (places ++ last ∷ []) at) h) as (λ _. (is_in (first ∷ places) at ≡ true) ⊎ (last ≡ at)) [
+      | inl e ↦ inl (or_left (first == at) (is_in places at) e)
+      | inr k ↦ elim (in_last places last at k) as (λ _. (is_in (first ∷ places) at ≡ true) ⊎ (last ≡ at)) [ inl n ↦ inl (or_right (first == at) (is_in places at) n) | inr e ↦ inr e ]
     ]
+
+pub in_next : (places : List ℕ) (i place d at : ℕ) → i < length places → place ≡ get_or places i d → is_in (take (i + 1) places) at ≡ true → (is_in (take i places) at ≡ true) ⊎ (place ≡ at)
+in_next places i place d at below is h =
+    in_last (take i places) place at (subst (λ (ps : List ℕ). is_in ps at ≡ true) (take_more places i d below ∙ ap (λ (p : ℕ). take i places ++ p ∷ []) (sym is)) h)
 
 module _ (placed : Placed) (old new : KnownCovers) (grown : IsGrown placed old new) where
   -- all covers that were listed under a name are right, and so are those that are listed there now
@@ -257,11 +260,6 @@ module _ (rule : Rule) (placed : Placed) (old new : KnownCovers) (own : List (Op
     listed = λ at table there away. cases at table there (is_in fresh at) refl;
   }
     where
-      below : (slots : List (Option Table)) (at : ℕ) (table : Table) → table_at slots at ≡ Some table → at < length slots
-      below [] at table e = absurd (none-some table e)
-      below (first ∷ slots) zero table e = omega arith
-      below (first ∷ slots) (suc at) table e = let rest : at < length slots = below slots at table e in omega (arith, rest)
-
       cases : (at : ℕ) (table : Table) → table_at placed.slots at ≡ Some table → (b : Bool) → is_in fresh at ≡ b → IsListed last_own at
-      cases at table there true h = listed at h (below placed.slots at table there)
+      cases at table there true h = listed at h (stands_below placed.slots at table there)
       cases at table there false h = stay at (notes.listed at table there h)

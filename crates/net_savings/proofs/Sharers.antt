@@ -6,7 +6,7 @@ use Rattle.circuit_model.specs.declared.circuit.Table.{Table}
 use Rattle.alg_div.specs.Cubes.{Has}
 use Rattle.alg_div.proofs.Lists.{Has-left, Has-right, Has-append}
 use Rattle.net_candidates.proofs.Turned.{rows_turned}
-use Rattle.net_candidates.proofs.Sums.{has_split}
+use Rattle.net_candidates.proofs.Sums.{has_split, pair_later}
 use Rattle.net_candidates.specs.Candidates.{ArePair, shared, cubes_of, all_cubes, IsSharedCube}
 use Rattle.net_candidates.specs.declared.rule.Rule.{Rule}
 use Rattle.net_candidates.specs.declared.rule.Rule.TheVariants.{Fx, Gkx, Gcx}
@@ -57,9 +57,6 @@ pair_across {X} xs ys x y m n =
 
 pair_head : {X : Type 0} (xs : List X) (x y : X) → Has y xs → ArePair (x ∷ xs) x y
 pair_head {X} xs x y m = let (between, after, e) = has_split y xs m in record { before = []; between = between; after = after; among = ap (λ (zs : List X). x ∷ zs) e }
-
-pair_later : {X : Type 0} (first : X) (xs : List X) (x y : X) → ArePair xs x y → ArePair (first ∷ xs) x y
-pair_later {X} first xs x y k = record { before = first ∷ k.before; between = k.between; after = k.after; among = ap (λ (zs : List X). first ∷ zs) k.among }
 
 pair_cases : {X : Type 0} (first : X) (xs : List X) (x y : X) → ArePair (first ∷ xs) x y → ((x ≡ first) × Has y xs) ⊎ ArePair xs x y
 pair_cases {X} first xs x y k = cases k.before k.among

@@ -25,6 +25,11 @@ all_at P (None ∷ slots) all (suc at) table e = all_at P slots all at table e
 all_at P (Some first ∷ slots) all zero table e = subst P (same_Some first table e) all.0
 all_at P (Some first ∷ slots) all (suc at) table e = all_at P slots all.1 at table e
 
+pub stands_below : (slots : List (Option Table)) (at : ℕ) (table : Table) → table_at slots at ≡ Some table → at < length slots
+stands_below [] at table e = absurd (none-some table e)
+stands_below (first ∷ slots) zero table e = omega arith
+stands_below (first ∷ slots) (suc at) table e = let below : at < length slots = stands_below slots at table e in omega (arith, below)
+
 -- what holds at each index holds of all tables
 pub all_standing : (P : Table → Type 0) (slots : List (Option Table)) → ((at : ℕ) (table : Table) → table_at slots at ≡ Some table → P table) → AllByRecursion P (standing slots)
 unfolding standing

@@ -6,7 +6,7 @@ use Rattle.circuit_model.specs.declared.circuit.Table.{Table}
 use Rattle.circuit_model.specs.declared.circuit.Circuit.{Circuit}
 use Rattle.alg_div.specs.Cubes.{Has}
 use Rattle.net_candidates.specs.Listed.{IsOwn}
-use Rattle.net_candidates.specs.Extracting.{HasManyKernels, IsListable, IsFirstMany}
+use Rattle.net_candidates.specs.Extracting.{HasManyCandidates, IsListable, IsFirstMany}
 use Rattle.net_candidates.specs.declared.rule.Rule.{Rule}
 use Rattle.cover_names.specs.Literals.{NamedCover}
 use Rattle.net_work.specs.Placed.{table_at}
@@ -20,7 +20,7 @@ AreOwn rule (Some table) covers = IsListable rule table × ((cover : NamedCover)
 
 -- a table has too many kernels; running out of memory needs no cause
 abbrev pub IsMany : Rule → Table → SavingsFault → Type 0
-IsMany rule table (ManyKernels name) = HasManyKernels rule table × (table.output ≡ name)
+IsMany rule table (ManyKernels name) = HasManyCandidates rule table × (table.output ≡ name)
 IsMany rule table Memory = Unit {0}
 
 abbrev pub IsManyIn : Rule → Option Table → SavingsFault → Type 0

@@ -7,7 +7,7 @@ use Rattle.std.specs.List.{sum_by, AllByRecursion}
 use Rattle.circuit_model.specs.Counts.{literals_of_table}
 use Rattle.circuit_model.specs.declared.circuit.Table.{Table}
 use Rattle.net_candidates.specs.Extracting.{IsNarrow}
-use Rattle.cover_names.specs.Literals.{Cube, NamedCover}
+use Rattle.cover_names.specs.Literals.{NamedCover}
 use Rattle.net_work.specs.Placed.{table_at}
 use Rattle.alg_tables.specs.Dividing.{divided, cover_table}
 use Rattle.sis_base.specs.declared.limits.TheConstants.{MAX_INPUTS}
@@ -39,10 +39,6 @@ abbrev pub AreLosses : List ℕ → NamedCover → List (Option Table) → List 
 AreLosses name cover slots places None = (place : ℕ) × (IsNarrowIn name cover (table_at slots place) → ⊥)
 AreLosses name cover slots places (Some lost) =
     (lost ≡ lost_at name cover slots places) × AllByRecursion (λ place. IsNarrowIn name cover (table_at slots place)) places
-
--- the number of literals of a cover
-abbrev pub literals_in : NamedCover → ℕ
-literals_in cover = sum_by (λ (cube : Cube). length cube) cover
 
 -- a cover leaves all tables narrow: its own, and each that it divides
 pub record LeavesNarrow (tables : List Table) (name : List ℕ) (cover : NamedCover) : Type 0 where

@@ -4,13 +4,12 @@
 use Rattle.std.specs.Prelude.{◌≡◌, ◌≢◌, ◌⊎◌, ℕ, ◌≤◌, Option, Some, None, List, [], ◌∷◌, length}
 use Rattle.circuit_model.specs.declared.circuit.Table.{Table}
 use Rattle.alg_div.specs.Cubes.{Has}
-use Rattle.net_candidates.specs.Candidates.{ArePair, shared, cubes_of}
+use Rattle.net_candidates.specs.Candidates.{ArePair, shared, cubes_of, literals_in}
 use Rattle.net_candidates.specs.declared.rule.Rule.{Rule}
 use Rattle.net_candidates.specs.declared.rule.Rule.TheVariants.{Fx, Gkx, Gcx}
 use Rattle.cover_names.specs.Literals.{Cube, NamedCover}
 use Rattle.net_work.specs.Placed.{table_at}
 use Rattle.net_savings.specs.Listing.{IsListed}
-use Rattle.net_savings.specs.Saving.{literals_in}
 
 -- the cubes of the rows of a table; none if there is no table
 abbrev pub cubes_in : Option Table → List Cube

@@ -9,7 +9,8 @@ ghost use Rattle.std.specs.List.{AllByRecursion};
 ghost use Rattle.circuit_model.specs.Soundness.{IsSound};
 ghost use Rattle.net_core.specs.Fresh.{IsNewName};
 ghost use Rattle.net_work.specs.Placed.{standing, circuit_of, table_at};
-ghost use Rattle.net_savings.specs.Saving.{literals_in, IsNarrowIn, LeavesNarrow};
+ghost use Rattle.net_candidates.specs.Candidates.{literals_in};
+ghost use Rattle.net_savings.specs.Saving.{IsNarrowIn, LeavesNarrow};
 
 use crate::saving::{loss_of, places_for};
 use alg_tables::cover_table;

@@ -14,7 +14,7 @@ ghost use Rattle.cover_names.specs.Literals.{NamedCover};
 ghost use Rattle.net_core.specs.Fresh.{IsNewName};
 ghost use Rattle.net_work.specs.Placed.{circuit_of};
 ghost use Rattle.net_savings.specs.Ranking.{saving_in, covers_under};
-ghost use Rattle.net_savings.specs.Saving.{literals_in};
+ghost use Rattle.net_candidates.specs.Candidates.{literals_in};
 ghost use Rattle.net_savings.specs.Savings.{IsRight, IsNoted, AreFound, IsGrown};
 
 use crate::covers::RankedCovers;

@@ -9,14 +9,13 @@
 ghost use Rattle.std.specs.Prelude.{◌≡◌, ◌↔◌, ℕ, ◌≤◌, true, Some, [], slice_get, IsTrue, IfOk, IfErr, OnOk, MatchOption};
 ghost use Rattle.circuit_model.specs.Soundness.{IsSound};
 ghost use Rattle.circuit_model.specs.declared.circuit.Table.{Table};
-ghost use Rattle.net_candidates.specs.Candidates.{IsCandidate};
+ghost use Rattle.net_candidates.specs.Candidates.{IsCandidate, literals_in};
 ghost use Rattle.net_candidates.specs.Extracting.{IsNext, IsDone};
 ghost use Rattle.net_candidates.specs.declared.rule.Rule.{Rule};
 ghost use Rattle.net_readers.specs.Fanouts.{is_in};
 ghost use Rattle.net_core.specs.Fresh.{IsNewName};
 ghost use Rattle.net_work.specs.Placed.{standing, circuit_of, table_at};
 ghost use Rattle.net_savings.specs.Listing.{AreKept, IsListed, IsUnlisted};
-ghost use Rattle.net_savings.specs.Saving.{literals_in};
 ghost use Rattle.net_savings.specs.Savings.{held, held_at, IsIn, AreSavings};
 
 use crate::cover_set::CoverSet;

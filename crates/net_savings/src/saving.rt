@@ -19,7 +19,8 @@ ghost use Rattle.cover_names.specs.declared.literal.Literal.{Literal};
 ghost use Rattle.net_core.specs.Fresh.{IsNewName};
 ghost use Rattle.net_core.specs.Tables.{named, IsOverInputs};
 ghost use Rattle.net_work.specs.Placed.{standing, circuit_of, table_at};
-ghost use Rattle.net_savings.specs.Saving.{literals_in, IsLoss, AreLosses, IsSaved};
+ghost use Rattle.net_candidates.specs.Candidates.{literals_in};
+ghost use Rattle.net_savings.specs.Saving.{IsLoss, AreLosses, IsSaved};
 
 use alg_tables::{cover_table, divided_table};
 use circuit_model::{Name, has_name};

@@ -11,7 +11,7 @@ ghost use Rattle.std.specs.List.Sorted.{IsStrictlyIncreasing};
 ghost use Rattle.circuit_model.specs.Names.{has, all_different};
 ghost use Rattle.circuit_model.specs.declared.circuit.Table.{Table};
 ghost use Rattle.alg_div.specs.Cubes.{Has};
-ghost use Rattle.net_candidates.specs.Candidates.{IsSharedCube};
+ghost use Rattle.net_candidates.specs.Candidates.{IsSharedCube, literals_in};
 ghost use Rattle.net_readers.specs.Fanouts.{is_in};
 ghost use Rattle.cover_names.specs.Cubes.{is_over};
 ghost use Rattle.cover_names.specs.Literals.{NamedCover};
@@ -19,7 +19,6 @@ ghost use Rattle.net_core.specs.Places.{written_of};
 ghost use Rattle.net_core.specs.Tables.{IsOverInputs};
 ghost use Rattle.net_work.specs.Placed.{standing, table_at};
 ghost use Rattle.net_savings.specs.Listing.{IsListed};
-ghost use Rattle.net_savings.specs.Saving.{literals_in};
 ghost use Rattle.net_savings.specs.Sharing.{cubes_in, AreSharers, AreSharedHere};
 
 use crate::owned::{OwnLists, is_listed};

@@ -9,7 +9,8 @@ use Rattle.alg_div.specs.Cubes.{Has}
 use Rattle.alg_factor.proofs.Laws.{factored-one}
 use Rattle.alg_kernel.specs.Kernels.{Ascends, AreKernels, rows_cmp}
 use Rattle.alg_kernel.proofs.Orders.{rows_total}
-use Rattle.sis_session.specs.Told.{cubes_of, form_line, IsFactorLine, AreFactorLines, kernel_line, AreKernelLines}
+use Rattle.net_decomp.specs.Partings.{rows_of}
+use Rattle.sis_session.specs.Told.{form_line, IsFactorLine, AreFactorLines, kernel_line, AreKernelLines}
 
 not_below : {X : Type 0} (cmp : X → X → Ordering) (total : IsTotalOrder cmp) (x : X) → cmp x x ≡ Less → ⊥
 not_below cmp total x h =
@@ -45,7 +46,7 @@ ascending_once {X} cmp total (x ∷ xs) (y ∷ ys) h k to from =
 
 pub factor_line_once : (table : Table) (line other : List ℕ) → IsFactorLine table line → IsFactorLine table other → line ≡ other
 factor_line_once table line other (form, is, told) (form', is', told') =
-    told ∙ ap (form_line table) (factored-one (cubes_of table) form form' is is') ∙ sym told'
+    told ∙ ap (form_line table) (factored-one (rows_of table) form form' is is') ∙ sym told'
 
 pub factor_lines_once : (tables : List Table) (text other : List ℕ) → AreFactorLines tables text → AreFactorLines tables other → text ≡ other
 unfolding AreFactorLines
@@ -60,4 +61,4 @@ kernels_once width rows ks js h k =
 
 pub kernel_lines_once : (table : Table) (text other : List ℕ) → AreKernelLines table text → AreKernelLines table other → text ≡ other
 kernel_lines_once table text other (ks, are, told) (js, are', told') =
-    told ∙ ap (flat_map (kernel_line table.inputs)) (kernels_once (length table.inputs) (cubes_of table) ks js are are') ∙ sym told'
+    told ∙ ap (flat_map (kernel_line table.inputs)) (kernels_once (length table.inputs) (rows_of table) ks js are are') ∙ sym told'

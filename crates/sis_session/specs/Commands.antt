@@ -21,7 +21,7 @@ use Rattle.genlib_format.specs.declared.fault.LibFault.{LibFault}
 use Rattle.kiss_format.specs.declared.fault.KissFault.{KissFault}
 use Rattle.blif_lines.specs.declared.fault.BlifFault.{BlifFault}
 use Rattle.circuit_laws.specs.Chains.{Chain}
-use Rattle.sis_session.specs.Told.{IsFactorLine, AreFactorLines, AreKernelLines, HasManyKernels}
+use Rattle.sis_session.specs.Told.{IsFactorLine, AreFactorLines, AreKernelLines}
 use Rattle.net_wires.specs.Rules.{sweep_step}
 use Rattle.alg_tables.specs.declared.taking.ComposeFault.{ComposeFault}
 use Rattle.alg_tables.specs.declared.taking.ComposeFault.TheVariants.{CubeLimit, TooWide}
@@ -29,7 +29,7 @@ use Rattle.net_elim.specs.Eliminating.{eliminate_step}
 use Rattle.sdc_simplify.specs.Simplified.{simplified, simplify_refusal}
 use Rattle.odc_simplify.specs.Turns.{HasFullySimplified}
 use Rattle.odc_simplify.specs.declared.fault.FullFault.TheVariants as unsimplified
-use Rattle.net_candidates.specs.Extracting.{IsExtracted, IsUnlistable, IsFull as IsExtractionFull}
+use Rattle.net_candidates.specs.Extracting.{IsExtracted, IsUnlistable, IsFull as IsExtractionFull, HasManyKernels}
 use Rattle.net_candidates.specs.declared.rule.Rule.{Rule as Extraction}
 use Rattle.net_candidates.specs.declared.rule.Rule.TheVariants as extract
 use Rattle.net_resub.specs.Resubbed.{IsResubbed}

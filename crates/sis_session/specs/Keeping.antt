@@ -16,7 +16,7 @@ use Rattle.circuit_model.specs.declared.machine.Spec.TheVariants as spec
 use Rattle.circuit_model.specs.Values.{driver}
 use Rattle.circuit_model.specs.declared.circuit.Circuit.{Circuit}
 use Rattle.circuit_model.specs.declared.circuit.Table.{Table}
-use Rattle.sis_session.specs.Told.{HasManyKernels}
+use Rattle.net_candidates.specs.Extracting.{HasManyKernels}
 use Rattle.genlib_format.specs.Reader.{library_of}
 use Rattle.sis_script.specs.declared.command.Op.{Op}
 use Rattle.sis_script.specs.declared.command.Op.TheVariants as command

@@ -5,15 +5,10 @@
 -- project's own: the form is that of the rows, so it is the form of the complement.
 use Rattle.std.specs.Prelude.{◌≡◌, ℕ, Bool, Option, List, [], ◌∷◌, ◌++◌, length, map, flat_map, codes}
 use Rattle.circuit_model.specs.declared.circuit.Table.{Table}
-use Rattle.net_core.specs.Tables.{places_of}
 use Rattle.alg_factor.specs.Forms.{Form, IsFactored}
 use Rattle.alg_factor.specs.Texts.{literal_text, row_text, sum_text, form_text}
-use Rattle.alg_kernel.specs.Kernels.{AreKernels, MoreKernels}
-use Rattle.sis_base.specs.declared.limits.TheConstants.{MAX_KERNELS}
-
--- the rows of a table as cubes over its inputs
-abbrev pub cubes_of : Table → List (List (Option Bool))
-cubes_of table = map places_of table.rows
+use Rattle.alg_kernel.specs.Kernels.{AreKernels}
+use Rattle.net_decomp.specs.Partings.{rows_of}
 
 -- a table and a form of its rows: the table's name, with `!` before it if the rows say when it is
 -- 0, and the form
@@ -22,7 +17,7 @@ form_line table form = literal_text table.phase table.output ++ (codes " = " ++ 
 
 -- the line of a table's factored form
 abbrev pub IsFactorLine : Table → List ℕ → Type 0
-IsFactorLine table line = (form : Form) × IsFactored (cubes_of table) form × (line ≡ form_line table form)
+IsFactorLine table line = (form : Form) × IsFactored (rows_of table) form × (line ≡ form_line table form)
 
 -- the lines of tables, in order
 unfoldable pub AreFactorLines : List Table → List ℕ → Type 0
@@ -37,9 +32,5 @@ kernel_line names kernel = sum_text (map (row_text names) kernel) ++ codes "\n"
 -- the lines of a table's kernels, in their order
 abbrev pub AreKernelLines : Table → List ℕ → Type 0
 AreKernelLines table text =
-    (kernels : List (List (List (Option Bool)))) × AreKernels (length table.inputs) (cubes_of table) kernels
+    (kernels : List (List (List (Option Bool)))) × AreKernels (length table.inputs) (rows_of table) kernels
     × (text ≡ flat_map (kernel_line table.inputs) kernels)
-
--- a table has more kernels than are listed
-abbrev pub HasManyKernels : Table → Type 0
-HasManyKernels table = MoreKernels MAX_KERNELS (length table.inputs) (cubes_of table)

@@ -8,7 +8,8 @@ ghost use Rattle.net_core.specs.Tables.{HasCharacters};
 ghost use Rattle.circuit_model.specs.declared.circuit.Table.{Table as TheTable};
 ghost use Rattle.alg_factor.specs.Forms.{Form, IsFactored};
 ghost use Rattle.alg_factor.specs.Texts.{form_text, literal_text};
-ghost use Rattle.sis_session.specs.Told.{cubes_of, IsFactorLine, AreFactorLines};
+ghost use Rattle.net_decomp.specs.Partings.{rows_of};
+ghost use Rattle.sis_session.specs.Told.{IsFactorLine, AreFactorLines};
 
 use alg_factor::factor;
 use circuit_model::Table as Written;
@@ -20,7 +21,7 @@ use std::alloc::{AllocError, Global};
 #[tactic(auto, unfolding(net_core::specs::Tables::covered))]
 fn form_of(alloc: Global, written: &Written) -> Result<Vec<u8>, AllocError>
     requires { HasCharacters (length written.now.inputs) written.now.rows }
-    ensures { IfOk result (λ text. (form : Form) × IsFactored (cubes_of written.now) form
+    ensures { IfOk result (λ text. (form : Form) × IsFactored (rows_of written.now) form
         × (text.items ≡ form_text written.now.inputs form)) }
 {
     let table = CoverTable::<PlainRow>::from_written(alloc, written)?;

@@ -8,7 +8,9 @@ ghost use Rattle.alg_div.specs.Cubes.{Has};
 ghost use Rattle.alg_factor.specs.Texts.{row_text, sum_text};
 ghost use Rattle.alg_kernel.specs.Kernels.{AreKernels, rows_in};
 ghost use Rattle.net_core.specs.Tables.{HasCharacters};
-ghost use Rattle.sis_session.specs.Told.{AreKernelLines, HasManyKernels, cubes_of, kernel_line};
+ghost use Rattle.net_decomp.specs.Partings.{rows_of};
+ghost use Rattle.net_candidates.specs.Extracting.{HasManyKernels};
+ghost use Rattle.sis_session.specs.Told.{AreKernelLines, kernel_line};
 
 use alg_factor::sum_text;
 use alg_kernel::{KernelFault, kernels};
@@ -41,7 +43,7 @@ fn lines_of(
 fn kernels_of(alloc: Global, written: &Table) -> Result<Vec<Cover<PlainRow>>, KernelFault>
     requires { HasCharacters (length written.now.inputs) written.now.rows }
     ensures kernels { IfOk result (λ found. AreKernels (length written.now.inputs)
-        (cubes_of written.now) (rows_in found.items)) }
+        (rows_of written.now) (rows_in found.items)) }
     ensures widths { IfOk result (λ found. (kernel : Shape) → Has kernel found.items
         → kernel.width ≡ length written.now.inputs) }
     ensures refused { HasManyKernels written.now → IfOk result (λ found. ⊥) }

@@ -1,7 +1,7 @@
 use Rattle.std.proofs.Common.{◌≤◌, sym, subst}
 use Rattle.cover_names.specs.Literals.{NamedCover}
 use Rattle.net_work.specs.Placed.{circuit_of}
-use Rattle.net_savings.specs.Saving.{literals_in}
+use Rattle.net_candidates.specs.Candidates.{literals_in}
 use Rattle.net_savings.proofs.Found.{candidate_some}
 use Rattle.net_extract.proofs.stepping.step.Goals as goal
 

@@ -2,7 +2,7 @@ use Rattle.std.proofs.Common.{◌≡◌, ◌≤◌, List, ℕ, [], ◌∷◌, �
 use Rattle.std.specs.Map.Iter.{deref}
 use Rattle.std.specs.declared.cmp.Reverse.{Reverse}
 use Rattle.std.proofs.lemmas.Map.Iter.{rest_more, rest_so_far, iter_end}
-use Rattle.net_candidates.specs.Candidates.{IsCandidate}
+use Rattle.net_candidates.specs.Candidates.{IsCandidate, literals_in}
 use Rattle.net_candidates.specs.Extracting.{IsNext}
 use Rattle.net_work.specs.Placed.{standing, circuit_of}
 use Rattle.cover_names.specs.Literals.{NamedCover}
@@ -10,7 +10,6 @@ use Rattle.cover_names.proofs.Orders.{cover_order}
 use Rattle.net_queue.proofs.Best.{turn_best, end_none}
 use Rattle.net_savings.proofs.Best.{IsBestOf, savings_total, best_told, none_saves}
 use Rattle.net_savings.specs.Ranking.{saving_in, covers_under, rank_in}
-use Rattle.net_savings.specs.Saving.{literals_in}
 use Rattle.net_savings.specs.Savings.{AreNotes}
 use Rattle.net_savings.proofs.FirstSaved.{all_listed, some_literal, first_next, none_first}
 use Rattle.net_savings.proofs.saved.first_saved.Goals as goal

@@ -1,5 +1,5 @@
 use Rattle.std.proofs.Common.{◌≡◌, take}
-use Rattle.net_savings.specs.Saving.{literals_in}
+use Rattle.net_candidates.specs.Candidates.{literals_in}
 use Rattle.net_savings.proofs.saving.first_name.Given as goal
 
 abbrev pub invariant-loop-cube : goal.invariant-loop-cube

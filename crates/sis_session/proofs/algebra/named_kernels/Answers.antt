@@ -6,7 +6,7 @@ use Rattle.circuit_model.specs.Values.{driver}
 use Rattle.circuit_model.specs.declared.circuit.Table.{Table}
 use Rattle.circuit_laws.proofs.Drivers.{driver_all}
 use Rattle.net_core.specs.Tables.{HasCharacters, named}
-use Rattle.sis_session.specs.Told.{HasManyKernels}
+use Rattle.net_candidates.specs.Extracting.{HasManyKernels}
 use Rattle.sis_session.specs.Commands.{KernelsOf, KernelTold}
 use Rattle.sis_session.specs.declared.refusal.Refusal.{Refusal}
 use Rattle.sis_session.specs.declared.refusal.Refusal.TheVariants.{KernelLimit}
