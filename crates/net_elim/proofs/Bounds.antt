@@ -12,8 +12,10 @@ use Rattle.net_core.specs.Reads.{IsBounded, HasBounds}
 use Rattle.circuit_order.specs.Order.{order_of}
 use Rattle.alg_tables.specs.Taking.{composed_into, take_refusal}
 use Rattle.alg_tables.specs.declared.taking.ComposeFault.{ComposeFault}
+use Rattle.net_work.specs.Along.{refusal_along}
+use Rattle.net_work.proofs.Along.{or_none, kept_along}
 use Rattle.net_elim.specs.Eliminating.{with_taken}
-use Rattle.net_elim.specs.Collapsing.{with_put, is_outer, refusal_among, put_refusal, refusal_along, collapse_refusal, collapsed}
+use Rattle.net_elim.specs.Collapsing.{with_put, is_outer, refusal_among, put_refusal, collapse_refusal, collapsed}
 use Rattle.net_elim.proofs.Small.{taken_bounded, kept_bounded}
 use Rattle.net_elim.proofs.Gathered.{collapse_reduced}
 use Rattle.net_elim.proofs.Leaving.{kept_tables}
@@ -21,11 +23,6 @@ use Rattle.sis_base.specs.declared.limits.TheConstants.{MAX_ROWS}
 
 abbrev named_fault : List ℕ → ComposeFault → List ℕ × ComposeFault
 named_fault name fault = (name, fault)
-
--- if there is no refusal, neither the first nor the rest refuses
-or_none : {A : Type 0} (first rest : Option A) → option_or first rest ≡ None → (first ≡ None) × (rest ≡ None)
-or_none None rest h = (refl, h)
-or_none (Some x) rest h = absurd (none-some x (sym h))
 
 map_none : {A B : Type 0} (f : A → B) (found : Option A) → option_map f found ≡ None → found ≡ None
 map_none f None h = refl
@@ -48,15 +45,15 @@ all_put circuit name none all = cases (driver circuit.tables name) none
     cases None h = (all, refl)
     cases (Some inner) h = (all_taken inner circuit.tables h all, length-map circuit.tables (composed_into inner))
 
-all_along : (names : List (List ℕ)) (circuit : Circuit) → refusal_along circuit names ≡ None → AllByRecursion IsBounded circuit.tables
-    → AllByRecursion IsBounded (fold with_put circuit names).tables × (length (fold with_put circuit names).tables ≡ length circuit.tables)
-unfolding refusal_along
-all_along [] circuit none all = (all, refl)
-all_along (name ∷ names) circuit none all =
-    let (first, rest) = or_none (put_refusal circuit name) (refusal_along (with_put circuit name) names) none in
-    let (now, long) = all_put circuit name first all in
-    let (end, same) = all_along names (with_put circuit name) rest now in
-    (end, same ∙ long)
+-- the tables of a circuit are within bounds, and as many as given
+abbrev AreSoMany : ℕ → Circuit → Type 0
+AreSoMany count circuit = AllByRecursion IsBounded circuit.tables × (length circuit.tables ≡ count)
+
+all_along : (names : List (List ℕ)) (circuit : Circuit) → refusal_along with_put put_refusal circuit names ≡ None → AllByRecursion IsBounded circuit.tables
+    → AreSoMany (length circuit.tables) (fold with_put circuit names)
+all_along names circuit none all =
+    kept_along (AreSoMany (length circuit.tables)) with_put put_refusal
+    (λ now name are first. let (bounded, long) = all_put now name first are.0 in (bounded, long ∙ are.1)) names circuit (all, refl) none
 
 -- the collapsed circuit
 collapsed_tables : (c : Circuit) → (collapsed c).tables ≡ filter (λ (table : Table). is_outer c table.output) (fold with_put c (order_of c.tables)).tables

@@ -9,10 +9,11 @@ use Rattle.circuit_model.specs.declared.circuit.Circuit.{Circuit}
 use Rattle.circuit_laws.specs.Edits.{with_tables, with_kept, tables_kept, is_root}
 use Rattle.net_work.specs.Placed.{Placed, standing, circuit_of, table_at}
 use Rattle.circuit_order.specs.Order.{order_of}
-use Rattle.net_elim.specs.Collapsing.{with_put, is_outer, collapsed}
+use Rattle.net_elim.specs.Collapsing.{with_put, put_refusal, is_outer, collapsed}
 use Rattle.net_elim.proofs.Stepping.{all_weaker, all_there}
 use Rattle.net_elim.proofs.Gathered.{collapse_reduced}
-use Rattle.net_elim.specs.Phases.{IsAlong, IsCut, rooted}
+use Rattle.net_work.specs.Along.{IsAlong}
+use Rattle.net_elim.specs.Phases.{IsCut, rooted}
 use Rattle.net_elim.proofs.Stands.{standing_rooted, outputs_same, past_end}
 
 pub cut_begun : (placed : Placed) → IsCut 0 placed placed
@@ -69,7 +70,7 @@ pub kept_tables : (circuit : Circuit) (test : List ℕ → Bool) → (with_kept 
 unfolding with_kept tables_kept
 kept_tables circuit test = refl
 
-pub collapsed_whole : (before put now : Placed) → IsSound (circuit_of before) → IsAlong (order_of (standing before.slots)) [] before put → now.frame ≡ put.frame
+pub collapsed_whole : (before put now : Placed) → IsSound (circuit_of before) → IsAlong with_put put_refusal (order_of (standing before.slots)) [] before put → now.frame ≡ put.frame
     → ((at : ℕ) → table_at now.slots at ≡ rooted put.frame (table_at put.slots at)) → circuit_of now ≡ collapsed (circuit_of before)
 unfolding collapsed
 collapsed_whole before put now sound along frame tables =

@@ -13,6 +13,7 @@ use Rattle.circuit_model.specs.declared.circuit.Table.{Table}
 use Rattle.circuit_model.specs.declared.circuit.Circuit.{Circuit}
 use Rattle.circuit_laws.specs.Edits.{with_kept, is_root}
 use Rattle.circuit_order.specs.Order.{order_of}
+use Rattle.net_work.specs.Along.{refusal_along}
 use Rattle.alg_tables.specs.Taking.{take_refusal}
 use Rattle.alg_tables.specs.declared.taking.ComposeFault.{ComposeFault}
 use Rattle.net_elim.specs.Eliminating.{with_taken}
@@ -45,13 +46,8 @@ refusal_among inner (outer ∷ tables) =
 abbrev pub put_refusal : Circuit → List ℕ → Option (List ℕ × ComposeFault)
 put_refusal circuit name = option_map_or (λ (inner : Table). refusal_among inner circuit.tables) (driver circuit.tables name) None
 
--- the first refusal while one table after the other is composed into its fanouts
-unfoldable pub refusal_along : Circuit → List (List ℕ) → Option (List ℕ × ComposeFault)
-refusal_along circuit [] = None
-refusal_along circuit (name ∷ names) = option_or (put_refusal circuit name) (refusal_along (with_put circuit name) names)
-
 -- why a circuit is not collapsed: the fanout and its fault, if a list or a composition has more
 -- than `MAX_ROWS` rows or else a composition more than `MAX_INPUTS` inputs; the first such
 -- composition, tables in topological order and the fanouts of each in table order
 abbrev pub collapse_refusal : Circuit → Option (List ℕ × ComposeFault)
-collapse_refusal circuit = refusal_along circuit (order_of circuit.tables)
+collapse_refusal circuit = refusal_along with_put put_refusal circuit (order_of circuit.tables)

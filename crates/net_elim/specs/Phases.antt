@@ -3,16 +3,14 @@
 -- definitions.
 -- Source: the SIS report (UCB/ERL M92/41), `collapse`; De Micheli, "Synthesis and Optimization of
 -- Digital Circuits", chapter 8 (elimination of vertices, one after the other).
-use Rattle.std.specs.Prelude.{◌≡◌, ℕ, true, if◌then◌else◌, Option, Some, None, List, fold, ltb}
+use Rattle.std.specs.Prelude.{◌≡◌, ℕ, true, if◌then◌else◌, Option, Some, None, List, ltb}
 use Rattle.std.specs.Option.{option_map}
-use Rattle.circuit_model.specs.Soundness.{IsSound}
 use Rattle.circuit_model.specs.declared.circuit.Table.{Table}
 use Rattle.circuit_model.specs.declared.circuit.Circuit.{Circuit}
 use Rattle.circuit_laws.specs.Edits.{is_root}
 use Rattle.net_readers.specs.Fanouts.{is_in}
 use Rattle.alg_tables.specs.Taking.{composed_into, take_refusal}
-use Rattle.net_elim.specs.Collapsing.{with_put, refusal_along}
-use Rattle.net_work.specs.Placed.{Placed, circuit_of, table_at, name_at}
+use Rattle.net_work.specs.Placed.{Placed, table_at}
 use Rattle.sis_base.specs.declared.limits.TheConstants.{MAX_ROWS}
 
 -- the table at an index was composed into those at some indices, of which none refused
@@ -25,15 +23,6 @@ pub record IsPut (inner : Table) (done : List ℕ) (before now : Placed) : Type 
 pub record IsPutInAll (inner : Table) (before now : Placed) : Type 0 where
   pub frame : now.frame ≡ before.frame
   pub tables : (at : ℕ) → table_at now.slots at ≡ option_map (composed_into inner) (table_at before.slots at)
-
--- the rest of an order ends with the circuit with which the whole order ends, and has the same
--- refusal
-pub record IsAlong (names left : List (List ℕ)) (before now : Placed) : Type 0 where
-  pub frame : now.frame ≡ before.frame
-  pub names_stay : (at : ℕ) → name_at now.slots at ≡ name_at before.slots at
-  pub end_same : fold with_put (circuit_of before) names ≡ fold with_put (circuit_of now) left
-  pub refusal_same : refusal_along (circuit_of before) names ≡ refusal_along (circuit_of now) left
-  pub sound : IsSound (circuit_of now)
 
 -- a table stays if it drives an output or a latch input
 abbrev pub rooted : Circuit → Option Table → Option Table

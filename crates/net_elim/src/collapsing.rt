@@ -8,12 +8,12 @@
 
 ghost use Rattle.std.specs.Prelude.{◌≡◌, Some, None, [], map, IfOk, IfErr, OnOk};
 ghost use Rattle.circuit_model.specs.Soundness.{IsSound};
-ghost use Rattle.net_elim.specs.Collapsing.{collapsed, collapse_refusal};
+ghost use Rattle.net_elim.specs.Collapsing.{with_put, put_refusal, collapsed, collapse_refusal};
 ghost use Rattle.net_core.specs.Reads.{HasBounds};
 ghost use Rattle.net_work.specs.Placed.{standing, circuit_of, name_at};
+ghost use Rattle.net_work.specs.Along.{IsAlong};
 ghost use Rattle.circuit_order.specs.Order.{order_of};
 ghost use Rattle.net_elim.specs.Collapse.{IsCause, HasCollapsed};
-ghost use Rattle.net_elim.specs.Phases.{IsAlong};
 
 use crate::collapse_step::put_at;
 use crate::cutting::cut_inner;
@@ -33,7 +33,7 @@ fn put_along<R: Row>(
     requires sound { IsSound (circuit_of work.old) }
     requires order { map (name_at work.old.slots) places.now
         ≡ map Some (order_of (standing work.old.slots)) }
-    ensures along { OnOk result (IsAlong
+    ensures along { OnOk result (IsAlong with_put put_refusal
         (order_of (standing work.old.slots)) [] work.old work.new) }
     ensures fault { IfErr result (λ fault. IsCause (collapse_refusal (circuit_of work.old)) fault) }
 {
@@ -46,7 +46,7 @@ fn put_along<R: Row>(
 // Composes all tables into their fanouts, in topological order.
 fn put_all<R: Row>(alloc: Global, work: &mut WorkingNetwork<R>) -> Result<(), CollapseFault>
     requires { IsSound (circuit_of work.old) }
-    ensures along { OnOk result (IsAlong
+    ensures along { OnOk result (IsAlong with_put put_refusal
         (order_of (standing work.old.slots)) [] work.old work.new) }
     ensures fault { IfErr result (λ fault. IsCause (collapse_refusal (circuit_of work.old)) fault) }
 {

@@ -4,3 +4,4 @@ pub mod Kept
 pub mod Views
 pub mod Ordered
 pub mod Numbers
+pub mod Along

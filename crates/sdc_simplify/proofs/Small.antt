@@ -19,11 +19,12 @@ use Rattle.net_core.specs.Tables.{places_of, characters_of}
 use Rattle.circuit_tables.specs.Folding.{folded}
 use Rattle.circuit_tables.proofs.Folded.{folded_shaped, folded_input_count, folded_row_count}
 use Rattle.circuit_order.specs.Order.{order_of}
+use Rattle.net_work.proofs.Along.{kept_along}
 use Rattle.circuit_tables.specs.Tidy.{IsWide, used_places, rows_once, chosen, narrowed, with_rows_once, tidied}
 use Rattle.circuit_tables.proofs.Tidied.{chosen_small, once_small, phase_kept, shaped_some}
 use Rattle.sdc_simplify.specs.Local.{is_local}
 use Rattle.sdc_simplify.specs.Minimized.{on_rows, meaning_of, with_minimum_rows, minimized, is_list_long}
-use Rattle.sdc_simplify.specs.Simplified.{Freedom, with_minimum, is_refused, refusal_along, simplify_refusal, simplified}
+use Rattle.sdc_simplify.specs.Simplified.{Freedom, with_minimum, is_refused, minimum_refusal, simplify_refusal, simplified}
 use Rattle.sdc_simplify.proofs.Minimal.{minimum_wide}
 use Rattle.sdc_simplify.proofs.InTurns.{turn_sound}
 use Rattle.sis_base.specs.declared.limits.TheConstants.{MAX_ROWS}
@@ -125,19 +126,13 @@ turn_bounded is_free circuit name sound bounds passed = cases (driver circuit.ta
         with_bounds circuit (minimized table (is_free circuit table)) bounds
         (minimized_bounded table (is_free circuit table) short (driver_all IsShaped circuit.tables sound.shaped name table at).0 (driver_all IsBounded circuit.tables bounds.tables name table at))
 
--- nothing was refused, so neither this nor the rest
-not_refused : (refused : Bool) (name : List ℕ) (rest : Option (List ℕ)) → (if refused then Some name else rest) ≡ None → (refused ≡ false) × (rest ≡ None)
-not_refused true name rest h = absurd (none-some name (sym h))
-not_refused false name rest h = (refl, h)
-
-pub turns_bounded : (names : List (List ℕ)) (circuit : Circuit) → IsSound circuit → HasBounds circuit → refusal_along is_local circuit names ≡ None
-    → HasBounds (fold (with_minimum is_local) circuit names)
-unfolding refusal_along
-turns_bounded [] circuit sound bounds none = bounds
-turns_bounded (name ∷ names) circuit sound bounds none =
-    let (passed, rest) = not_refused (is_refused circuit name) name (refusal_along is_local (with_minimum is_local circuit name) names) none in
-    turns_bounded names (with_minimum is_local circuit name) (turn_sound circuit name sound) (turn_bounded is_local circuit name sound bounds passed) rest
+not_refused : (refused : Bool) (name : List ℕ) → (if refused then Some name else None) ≡ None → refused ≡ false
+not_refused true name h = absurd (none-some name (sym h))
+not_refused false name h = refl
 
 pub simplified_bounded : (circuit : Circuit) → IsSound circuit → HasBounds circuit → simplify_refusal circuit ≡ None → HasBounds (simplified circuit)
 unfolding simplified
-simplified_bounded circuit sound bounds none = turns_bounded (order_of circuit.tables) circuit sound bounds none
+simplified_bounded circuit sound bounds none =
+    (kept_along (λ (now : Circuit). IsSound now × HasBounds now) (with_minimum is_local) minimum_refusal
+    (λ now name are passed. (turn_sound now name are.0, turn_bounded is_local now name are.0 are.1 (not_refused (is_refused now name) name passed)))
+    (order_of circuit.tables) circuit (sound, bounds) none).1

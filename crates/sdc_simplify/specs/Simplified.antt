@@ -3,13 +3,14 @@
 -- Source: the SIS report (UCB/ERL M92/41), `simplify`; De Micheli, "Synthesis and Optimization of
 -- Digital Circuits", chapter 8 (simplification of one vertex after the other). The steps are in the
 -- order of circuit_order, in which each table comes after what it reads.
-use Rattle.std.specs.Prelude.{ℕ, Bool, false, if◌then◌else◌, Option, Some, None, List, [], ◌∷◌, fold}
+use Rattle.std.specs.Prelude.{ℕ, Bool, false, if◌then◌else◌, Option, Some, None, List, fold}
 use Rattle.std.specs.Option.{option_map_or}
 use Rattle.circuit_model.specs.Values.{driver}
 use Rattle.circuit_model.specs.declared.circuit.Table.{Table}
 use Rattle.circuit_model.specs.declared.circuit.Circuit.{Circuit}
 use Rattle.circuit_laws.specs.Edits.{with_replaced}
 use Rattle.circuit_order.specs.Order.{order_of}
+use Rattle.net_work.specs.Along.{refusal_along}
 use Rattle.sdc_simplify.specs.Local.{is_local}
 use Rattle.sdc_simplify.specs.Minimized.{minimized, is_list_long}
 
@@ -30,12 +31,9 @@ own_refusal table = if is_list_long table then Some table.output else None
 abbrev pub is_refused : Circuit → List ℕ → Bool
 is_refused circuit name = option_map_or is_list_long (driver circuit.tables name) false
 
--- the first of some signals whose table's on-list must be made and is too long, after the tables
--- before it were replaced by their minima
-unfoldable pub refusal_along : Freedom → Circuit → List (List ℕ) → Option (List ℕ)
-refusal_along is_free circuit [] = None
-refusal_along is_free circuit (name ∷ names) =
-    if is_refused circuit name then Some name else refusal_along is_free (with_minimum is_free circuit name) names
+-- a signal whose table's on-list must be made and is too long
+abbrev pub minimum_refusal : Circuit → List ℕ → Option (List ℕ)
+minimum_refusal circuit name = if is_refused circuit name then Some name else None
 
 -- all tables are replaced by their minima under local don't-cares; the order is that of the circuit
 -- before the first step
@@ -45,4 +43,4 @@ simplified circuit = fold (with_minimum is_local) circuit (order_of circuit.tabl
 -- why a circuit is not simplified: the first signal in that order whose table's on-list must be
 -- made and has more than `MAX_ROWS` rows
 abbrev pub simplify_refusal : Circuit → Option (List ℕ)
-simplify_refusal circuit = refusal_along is_local circuit (order_of circuit.tables)
+simplify_refusal circuit = refusal_along (with_minimum is_local) minimum_refusal circuit (order_of circuit.tables)

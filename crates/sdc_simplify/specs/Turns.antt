@@ -2,12 +2,11 @@
 -- don't-cares. No public clause needs these definitions.
 -- Source: the SIS report (UCB/ERL M92/41), `simplify`; De Micheli, "Synthesis and Optimization of
 -- Digital Circuits", chapter 8.
-use Rattle.std.specs.Prelude.{◌≡◌, ℕ, Bool, false, not, ◌&&◌, Option, List, fold, map, length, unwrap_or}
+use Rattle.std.specs.Prelude.{◌≡◌, ℕ, Bool, false, not, ◌&&◌, Option, List, map, length, unwrap_or}
 use Rattle.std.specs.List.{AllByRecursion, list_any}
 use Rattle.std.specs.Option.{option_map_or}
 use Rattle.sis_base.specs.Rows.{some_matches}
 use Rattle.circuit_model.specs.Runs.{bit_of}
-use Rattle.circuit_model.specs.Soundness.{IsSound}
 use Rattle.circuit_model.specs.Values.{driver}
 use Rattle.circuit_model.specs.declared.circuit.Table.{Table}
 use Rattle.circuit_model.specs.declared.circuit.Circuit.{Circuit}
@@ -16,8 +15,6 @@ use Rattle.cover_search.specs.Ties.{NodeConstraint, keeps_all}
 use Rattle.cover_search.specs.Views.{tie_of}
 use Rattle.cover_search.specs.declared.tied.NodeConstraint.{NodeConstraint as Held}
 use Rattle.sdc_simplify.specs.Local.{differs, is_local}
-use Rattle.sdc_simplify.specs.Simplified.{with_minimum, refusal_along}
-use Rattle.net_work.specs.Placed.{Placed, circuit_of, name_at}
 
 -- the bits that a point of some names has at other names; 0 at a name that is none of them
 abbrev pub bits_at : List (List ℕ) → List Bool → List (List ℕ) → List Bool
@@ -58,12 +55,3 @@ pub record AreTied {R : Type 0} (circuit : Circuit) (table : Table) (inputs : Li
 pub record AreLocal {R : Type 0} (circuit : Circuit) (table : Table) (ties : List (Held R)) : Type 0 where
   pub wide : AreOfWidth (length table.inputs) ties
   pub kept : (point : List Bool) → length point ≡ length table.inputs → keeps_all (seen ties) point ≡ not (is_local circuit table point)
-
--- what is left of an order leads where the whole order led, and refuses what the whole order
--- refused
-pub record IsAlong (names left : List (List ℕ)) (before now : Placed) : Type 0 where
-  pub frame : now.frame ≡ before.frame
-  pub names_stay : (at : ℕ) → name_at now.slots at ≡ name_at before.slots at
-  pub end_same : fold (with_minimum is_local) (circuit_of before) names ≡ fold (with_minimum is_local) (circuit_of now) left
-  pub refusal_same : refusal_along is_local (circuit_of before) names ≡ refusal_along is_local (circuit_of now) left
-  pub sound : IsSound (circuit_of now)

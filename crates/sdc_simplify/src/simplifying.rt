@@ -7,12 +7,13 @@
 
 ghost use Rattle.std.specs.Prelude.{◌≡◌, Some, None, [], map, IfOk, IfErr, OnOk};
 ghost use Rattle.circuit_model.specs.Soundness.{IsSound};
-ghost use Rattle.sdc_simplify.specs.Simplified.{simplified, simplify_refusal};
+ghost use Rattle.sdc_simplify.specs.Local.{is_local};
+ghost use Rattle.sdc_simplify.specs.Simplified.{with_minimum, minimum_refusal, simplified, simplify_refusal};
 ghost use Rattle.net_core.specs.Reads.{HasBounds};
 ghost use Rattle.net_work.specs.Placed.{standing, circuit_of, name_at};
+ghost use Rattle.net_work.specs.Along.{IsAlong};
 ghost use Rattle.circuit_order.specs.Order.{order_of};
 ghost use Rattle.sdc_simplify.specs.Simplify.{IsCause, HasSimplified};
-ghost use Rattle.sdc_simplify.specs.Turns.{IsAlong};
 
 use crate::fault::SimplifyFault;
 use crate::turns::minimize_at;
@@ -31,7 +32,7 @@ fn minimize_along<R: Row>(
     requires sound { IsSound (circuit_of work.old) }
     requires order { map (name_at work.old.slots) places.now
         ≡ map Some (order_of (standing work.old.slots)) }
-    ensures along { OnOk result (IsAlong
+    ensures along { OnOk result (IsAlong (with_minimum is_local) minimum_refusal
         (order_of (standing work.old.slots)) [] work.old work.new) }
     ensures fault { IfErr result (λ fault. IsCause (simplify_refusal (circuit_of work.old)) fault) }
 {

@@ -1,12 +1,14 @@
 use Rattle.std.proofs.lemmas.Result.{err_from_is_err_and}
 use Rattle.net_work.specs.Placed.{standing}
 use Rattle.circuit_order.specs.Order.{order_of}
-use Rattle.net_elim.proofs.Along.{turn_there, turn_more, turn_refused}
+use Rattle.net_work.proofs.Along.{turn_there}
+use Rattle.net_elim.specs.Collapsing.{with_put, put_refusal}
+use Rattle.net_elim.proofs.Along.{turn_more, turn_refused}
 use Rattle.net_elim.proofs.collapsing.put_along.Goals as goal
 
 pub put_at-requires-clause-there : goal.put_at-requires-clause-there
 put_at-requires-clause-there g c =
-    turn_there (order_of (standing c.args.work.now.slots)) c.args.places.now c.loop-place.place-index c.args.work.now c.loop-place.work c.requires.order c.loop-place-test.true c.loop-place.invariant
+    turn_there with_put put_refusal (order_of (standing c.args.work.now.slots)) c.args.places.now c.loop-place.place-index c.args.work.now c.loop-place.work c.requires.order c.loop-place-test.true c.loop-place.invariant
 
 pub returns-in_err-put_at-clause-fault : goal.returns-in_err-put_at-clause-fault
 returns-in_err-put_at-clause-fault g c =
