@@ -1,6 +1,6 @@
 -- If the savings of all candidates are exact, the first cover of the ranking that is a candidate is
 -- next.
-use Rattle.std.proofs.Common.{◌≡◌, ◌↔◌, ℕ, ◌+◌, ◌<◌, ◌≤◌, ◌==◌, zero, suc, true, false, Option, Some, None, List, [], ◌∷◌, length, take, get_or, slice_get, refl, sym, ap, ◌∙◌, subst, inl, inr, arith}
+use Rattle.std.proofs.Common.{◌≡◌, ◌↔◌, ℕ, ◌+◌, ◌<◌, ◌≤◌, ◌==◌, zero, suc, Bool, true, false, Option, Some, None, List, [], ◌∷◌, length, take, get_or, slice_get, refl, sym, ap, ◌∙◌, subst, inl, inr, arith}
 use Rattle.std.specs.Prelude.{unwrap_or}
 use Rattle.std.specs.List.{list_any, AllByRecursion}
 use Rattle.std.proofs.lemmas.Bool.{false≢true, or_cases, or_left, or_right, eq-eqb}
@@ -137,8 +137,8 @@ not_in_next own cover places i place d below is before here at h =
 
 -- ---- the best
 
-module _ (rule : Rule) (now : Placed) (name : List ℕ) (sound : IsSound (circuit_of now)) (new : IsNewName (circuit_of now) name) (known : KnownCovers) (own : List (Option (List NamedCover)))
-    (notes : AreNotes rule now (saving_in known) (covers_under known) own [] []) where
+module _ (rule : Rule) (now : Placed) (name : List ℕ) (sound : IsSound (circuit_of now)) (new : IsNewName (circuit_of now) name) (known : KnownCovers) (own : List (Option (List NamedCover))) (met : NamedCover → Bool)
+    (notes : AreNotes rule now (saving_in known) (covers_under known) own [] met []) where
   abbrev pub Passes : NamedCover → Type 0
   Passes cover = IsCandidate rule (standing now.slots) cover
 

@@ -5,6 +5,8 @@ pub mod Reading
 pub mod Nameless
 pub mod Untouched
 pub mod Notes
+pub mod Contained
+pub mod Marking
 pub mod Losing
 pub mod Tabled
 pub mod Narrowing

@@ -1,5 +1,5 @@
 -- The savings of candidates, kept while tables are added and change.
-use Rattle.std.proofs.Common.{◌≡◌, ◌||◌, ℕ, ◌+◌, ◌<◌, ◌==◌, zero, suc, Bool, true, false, Option, Some, None, List, [], ◌∷◌, ◌++◌, length, get_or, take, set, slice_get, bytes_eq, if◌then◌else◌, refl, sym, ap, ◌∙◌, subst, inl, inr, arith}
+use Rattle.std.proofs.Common.{◌≡◌, ◌||◌, ℕ, ◌+◌, ◌<◌, ◌==◌, zero, suc, Bool, true, false, Option, Some, None, List, [], ◌∷◌, ◌++◌, length, get_or, take, set, slice_get, bytes_eq, if◌then◌else◌, refl, sym, ap, ◌∙◌, subst, inl, inr, arith, ◌&&◌}
 use Rattle.std.proofs.lemmas.Bool.{false≢true, eq-eqb, or_parts, or_cases, or_left, or_right, cases_lt}
 use Rattle.std.proofs.lemmas.List.{length-set, length-append}
 use Rattle.std.proofs.lemmas.Option.{none-some, same_Some}
@@ -10,16 +10,19 @@ use Rattle.alg_div.specs.Cubes.{Has}
 use Rattle.net_candidates.specs.declared.rule.Rule.{Rule}
 use Rattle.net_readers.specs.Fanouts.{is_in}
 use Rattle.cover_names.specs.Literals.{NamedCover}
+use Rattle.cover_names.specs.Cubes.{names_in}
+use Rattle.alg_tables.specs.Dividing.{divided}
 use Rattle.net_core.proofs.Lookups.{get_set_other}
 use Rattle.net_work.specs.Placed.{Placed, joined, table_at, with_slot, with_last}
+use Rattle.net_savings.specs.Meeting.{IsAside}
 use Rattle.net_savings.specs.Savings.{AreNotes}
 use Rattle.net_savings.proofs.KeptLists.{before, cleared, kept_set, kept_push, within}
 use Rattle.net_savings.proofs.Refreshed.{has_name_next}
 use Rattle.net_savings.proofs.Sharers.{shared_by_same}
 use Rattle.net_savings.proofs.Slots.{stands_below}
-use Rattle.net_savings.proofs.Untouched.{exact_after_set, exact_after_add}
+use Rattle.net_savings.proofs.Untouched.{exact_after_set, exact_after_add, unread_all}
 
--- an index is neither among indices, nor the last of them
+-- an index is has_none among indices, nor the last of them
 not_pushed : (places : List ℕ) (place at : ℕ) → is_in (places ++ place ∷ []) at ≡ false → (is_in places at ≡ false) × (place ≡ at → ⊥)
 not_pushed [] place at h = (refl, λ e. false≢true (sym (or_parts (place == at) false h).0 ∙ eq-eqb place at e))
 not_pushed (first ∷ places) place at h =
@@ -102,31 +105,49 @@ names_away names i one d query below is before apart = cases (has (take (i + 1) 
       | inr same ↦ absurd (false≢true (sym apart ∙ (ap (λ (name : List ℕ). bytes_eq name one) same ∙ name_itself one)))
     ]
 
--- more names may be touched
-notes_more : (rule : Rule) (now : Placed) (saving : NamedCover → Option ℕ) (under : List ℕ → List NamedCover) (own : List (Option (List NamedCover))) (touched more : List (List ℕ)) (fresh : List ℕ)
-    → ((name : List ℕ) → has more name ≡ false → has touched name ≡ false) → AreNotes rule now saving under own touched fresh → AreNotes rule now saving under own more fresh
-notes_more rule now saving under own touched more fresh fewer notes = record {
-  found = notes.found;
-  lists = notes.lists;
-  long = notes.long;
-  exact = λ name cover m away. notes.exact name cover m (fewer name away);
-  noted = notes.noted;
-  shared = notes.shared;
-  listed = notes.listed;
-}
+-- ---- covers that are met
 
-module _ (rule : Rule) (now : Placed) (saving : NamedCover → Option ℕ) (under : List ℕ → List NamedCover) (own : List (Option (List NamedCover))) (touched : List (List ℕ)) (fresh : List ℕ)
-    (notes : AreNotes rule now saving under own touched fresh) where
-  pub notes_set : (place : ℕ) (old new : Table) → table_at now.slots place ≡ Some old → new.output ≡ old.output
-      → AreNotes rule (with_slot now place (Some new)) saving under (set own place None) (touched ++ (old.inputs ++ new.inputs)) (fresh ++ place ∷ [])
-  notes_set place old new there same = record {
+left_false : (a b : Bool) → a ≡ false → (a && b) ≡ false
+left_false true b h = absurd (false≢true (sym h))
+left_false false b h = refl
+
+right_false : (a b : Bool) → b ≡ false → (a && b) ≡ false
+right_false true b h = h
+right_false false b h = refl
+
+-- a cover that changes do not concern: it was not to be renewed, and does not divide two tables
+record IsCalm (touched : List (List ℕ)) (met : NamedCover → Bool) (old new : Table) (name : List ℕ) (cover : NamedCover) : Type 0 where
+  away : (has touched name && met cover) ≡ false
+  before : (other : List ℕ) → divided other true cover old ≡ old
+  after : (other : List ℕ) → divided other true cover new ≡ new
+
+calm_from : (touched names : List (List ℕ)) (met new_met : NamedCover → Bool) (old new : Table) → ((name : List ℕ) → has names name ≡ false → has (touched ++ (old.inputs ++ new.inputs)) name ≡ false)
+    → IsAside met new_met old new → (name : List ℕ) (cover : NamedCover) → has (names_in cover) name ≡ true → (has names name && new_met cover) ≡ false → IsCalm touched met old new name cover
+calm_from touched names met new_met old new fewer aside name cover named away = cases (has names name) refl away
+  where
+    cases : (b : Bool) → has names name ≡ b → (b && new_met cover) ≡ false → IsCalm touched met old new name cover
+    cases true h k = let (first, before, after) = aside cover k in record { away = right_false (has touched name) (met cover) first; before = before; after = after }
+    cases false h k =
+        let first = has_neither touched (old.inputs ++ new.inputs) name (fewer name h) in
+        let second = has_neither old.inputs new.inputs name first.1 in
+        record {
+          away = left_false (has touched name) (met cover) first.0;
+          before = unread_all cover old name named second.0;
+          after = unread_all cover new name named second.1;
+        }
+
+module _ (rule : Rule) (now : Placed) (saving : NamedCover → Option ℕ) (under : List ℕ → List NamedCover) (own : List (Option (List NamedCover))) (touched : List (List ℕ)) (met : NamedCover → Bool) (fresh : List ℕ)
+    (notes : AreNotes rule now saving under own touched met fresh) where
+  pub notes_set : (place : ℕ) (old new : Table) → table_at now.slots place ≡ Some old → new.output ≡ old.output → (names : List (List ℕ)) (new_met : NamedCover → Bool)
+      → ((name : List ℕ) → has names name ≡ false → has (touched ++ (old.inputs ++ new.inputs)) name ≡ false) → IsAside met new_met old new
+      → AreNotes rule (with_slot now place (Some new)) saving under (set own place None) names new_met (fresh ++ place ∷ [])
+  notes_set place old new there same names new_met fewer aside = record {
     found = notes.found;
     lists = kept_set rule now.slots own notes.lists place (Some new);
     long = length-set own place None ∙ (notes.long ∙ sym (length-set now.slots place (Some new)));
     exact = λ name cover m away number e.
-        (let first = has_neither touched (old.inputs ++ new.inputs) name away in
-        let second = has_neither old.inputs new.inputs name first.1 in
-        exact_after_set cover name (notes.found.named name cover m) now place number old new there same second.0 second.1 (notes.exact name cover m first.0 number e));
+        (let calm = calm_from touched names met new_met old new fewer aside name cover (notes.found.named name cover m) away in
+        exact_after_set cover now place number old new there same calm.before calm.after (notes.exact name cover m calm.away number e));
     noted = λ at covers e. notes.noted at covers (cleared own place at covers e).0;
     shared = λ one other cover (covers, e) (others, k) by.
         (let first = cleared own place one covers e in
@@ -140,8 +161,9 @@ module _ (rule : Rule) (now : Placed) (saving : NamedCover → Option ℕ) (unde
         (covers, get_set_other own place at None (λ e. parts.1 (sym e)) ∙ is));
   }
 
-  pub notes_add : (new : Table) → AreNotes rule (with_last now new) saving under (own ++ None ∷ []) (touched ++ new.inputs) (fresh ++ length now.slots ∷ [])
-  notes_add new = record {
+  pub notes_add : (new : Table) (names : List (List ℕ)) (new_met : NamedCover → Bool) → ((name : List ℕ) → has names name ≡ false → has (touched ++ (new.inputs ++ new.inputs)) name ≡ false)
+      → IsAside met new_met new new → AreNotes rule (with_last now new) saving under (own ++ None ∷ []) names new_met (fresh ++ length now.slots ∷ [])
+  notes_add new names new_met fewer aside = record {
     found = notes.found;
     lists = record {
       long = omega (arith, notes.lists.long, length-append own (None ∷ []), length-append now.slots (Some new ∷ []));
@@ -149,8 +171,8 @@ module _ (rule : Rule) (now : Placed) (saving : NamedCover → Option ℕ) (unde
     };
     long = omega (arith, notes.long, length-append own (None ∷ []), length-append now.slots (Some new ∷ []));
     exact = λ name cover m away number e.
-        (let parts = has_neither touched new.inputs name away in
-        exact_after_add cover name (notes.found.named name cover m) now number new parts.1 (notes.exact name cover m parts.0 number e));
+        (let calm = calm_from touched names met new_met new new fewer aside name cover (notes.found.named name cover m) away in
+        exact_after_add cover now number new calm.after (notes.exact name cover m calm.away number e));
     noted = λ at covers e. notes.noted at covers (pushed_some own at covers e);
     shared = λ one other cover (covers, e) (others, k) by.
         (let first = pushed_some own one covers e in
@@ -166,37 +188,38 @@ module _ (rule : Rule) (now : Placed) (saving : NamedCover → Option ℕ) (unde
       before_last : (at : ℕ) (covers : List NamedCover) → slice_get own at ≡ Some (Some covers) → table_at (now.slots ++ Some new ∷ []) at ≡ table_at now.slots at
       before_last at covers e = let below : at < length own = within own at (Some covers) e in before now.slots (Some new) at (omega (arith, below, notes.lists.long))
 
-  pub notes_touched : (new_own : List (Option (List NamedCover))) (one two before_names now_names : List (List ℕ)) (new_fresh : List ℕ) (place : ℕ) → new_own ≡ set own place None
+  pub notes_touched : (new_own : List (Option (List NamedCover))) (one two before_names now_names : List (List ℕ)) (new_met : NamedCover → Bool) (new_fresh : List ℕ) (place : ℕ) → new_own ≡ set own place None
       → IsUnion touched before_names one → IsUnion one now_names two → new_fresh ≡ fresh ++ place ∷ [] → (old new : Table) → table_at now.slots place ≡ Some old → new.output ≡ old.output
-      → before_names ≡ old.inputs → now_names ≡ new.inputs → AreNotes rule (with_slot now place (Some new)) saving under new_own two new_fresh
-  notes_touched new_own one two before_names now_names new_fresh place own_is one_is two_is fresh_is old new there same old_is new_is =
-      subst (λ (o : List (Option (List NamedCover))). AreNotes rule (with_slot now place (Some new)) saving under o two new_fresh) (sym own_is)
-      (subst (λ (places : List ℕ). AreNotes rule (with_slot now place (Some new)) saving under (set own place None) two places) (sym fresh_is)
-      (notes_more rule (with_slot now place (Some new)) saving under (set own place None) (touched ++ (old.inputs ++ new.inputs)) two (fresh ++ place ∷ [])
+      → before_names ≡ old.inputs → now_names ≡ new.inputs → IsAside met new_met old new → AreNotes rule (with_slot now place (Some new)) saving under new_own two new_met new_fresh
+  notes_touched new_own one two before_names now_names new_met new_fresh place own_is one_is two_is fresh_is old new there same old_is new_is aside =
+      subst (λ (o : List (Option (List NamedCover))). AreNotes rule (with_slot now place (Some new)) saving under o two new_met new_fresh) (sym own_is)
+      (subst (λ (places : List ℕ). AreNotes rule (with_slot now place (Some new)) saving under (set own place None) two new_met places) (sym fresh_is)
+      (notes_set place old new there same two new_met
       (λ name away.
       (let second = two_is name away in
       let first = one_is name second.0 in
       has_none touched (old.inputs ++ new.inputs) name first.0
       (has_none old.inputs new.inputs name (subst (λ (names : List (List ℕ)). has names name ≡ false) old_is first.1) (subst (λ (names : List (List ℕ)). has names name ≡ false) new_is second.1))))
-      (notes_set place old new there same)))
+      aside))
 
-  pub notes_pushed : (new_own : List (Option (List NamedCover))) (names inputs : List (List ℕ)) (new_fresh : List ℕ) (long : ℕ) (new : Table) → new_own ≡ own ++ None ∷ [] → IsUnion touched inputs names → inputs ≡ new.inputs
-      → new_fresh ≡ fresh ++ long ∷ [] → long ≡ length now.slots → AreNotes rule (with_last now new) saving under new_own names new_fresh
-  notes_pushed new_own names inputs new_fresh long new own_is names_is inputs_is fresh_is long_is =
-      subst (λ (o : List (Option (List NamedCover))). AreNotes rule (with_last now new) saving under o names new_fresh) (sym own_is)
-      (subst (λ (places : List ℕ). AreNotes rule (with_last now new) saving under (own ++ None ∷ []) names places) (sym (fresh_is ∙ ap (λ (n : ℕ). fresh ++ n ∷ []) long_is))
-      (notes_more rule (with_last now new) saving under (own ++ None ∷ []) (touched ++ new.inputs) names (fresh ++ length now.slots ∷ [])
+  pub notes_pushed : (new_own : List (Option (List NamedCover))) (names inputs : List (List ℕ)) (new_met : NamedCover → Bool) (new_fresh : List ℕ) (long : ℕ) (new : Table) → new_own ≡ own ++ None ∷ [] → IsUnion touched inputs names
+      → inputs ≡ new.inputs → new_fresh ≡ fresh ++ long ∷ [] → long ≡ length now.slots → IsAside met new_met new new → AreNotes rule (with_last now new) saving under new_own names new_met new_fresh
+  notes_pushed new_own names inputs new_met new_fresh long new own_is names_is inputs_is fresh_is long_is aside =
+      subst (λ (o : List (Option (List NamedCover))). AreNotes rule (with_last now new) saving under o names new_met new_fresh) (sym own_is)
+      (subst (λ (places : List ℕ). AreNotes rule (with_last now new) saving under (own ++ None ∷ []) names new_met places) (sym (fresh_is ∙ ap (λ (n : ℕ). fresh ++ n ∷ []) long_is))
+      (notes_add new names new_met
       (λ name away.
       (let parts = names_is name away in
-      has_none touched new.inputs name parts.0 (subst (λ (ns : List (List ℕ)). has ns name ≡ false) inputs_is parts.1)))
-      (notes_add new)))
+      let here = subst (λ (ns : List (List ℕ)). has ns name ≡ false) inputs_is parts.1 in
+      has_none touched (new.inputs ++ new.inputs) name parts.0 (has_none new.inputs new.inputs name here here)))
+      aside))
 
 -- no saving is set, and all indices are fresh
-pub notes_begin : (rule : Rule) (now : Placed) (saving : NamedCover → Option ℕ) (under : List ℕ → List NamedCover) (own : List (Option (List NamedCover))) (fresh : List ℕ)
+pub notes_begin : (rule : Rule) (now : Placed) (saving : NamedCover → Option ℕ) (under : List ℕ → List NamedCover) (own : List (Option (List NamedCover))) (met : NamedCover → Bool) (fresh : List ℕ)
     → ((cover : NamedCover) → saving cover ≡ None) → ((name : List ℕ) → under name ≡ []) → length own ≡ length now.slots
     → ((at : ℕ) (covers : List NamedCover) → slice_get own at ≡ Some (Some covers) → ⊥) → ((at : ℕ) → at < length now.slots → is_in fresh at ≡ true)
-    → AreNotes rule now saving under own [] fresh
-notes_begin rule now saving under own fresh nothing none long empty all = record {
+    → AreNotes rule now saving under own [] met fresh
+notes_begin rule now saving under own met fresh nothing none long empty all = record {
   found = record {
     found = λ cover number e. absurd (none-some number (sym (nothing cover) ∙ e));
     named = λ name cover m. absurd (subst (λ (covers : List NamedCover). Has cover covers) (none name) m);

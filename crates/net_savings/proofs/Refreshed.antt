@@ -1,6 +1,6 @@
 -- The savings of candidates are recomputed where changes touched them, and all of them are exact
 -- then.
-use Rattle.std.proofs.Common.{◌≡◌, ◌⊎◌, ℕ, ◌+◌, ◌<◌, ◌≤◌, zero, suc, Bool, true, false, Option, Some, None, List, [], ◌∷◌, ◌++◌, map, length, take, get_or, set, slice_get, refl, sym, ap, ◌∙◌, subst, inl, inr, arith, bytes_eq, ◌==◌}
+use Rattle.std.proofs.Common.{◌≡◌, ◌⊎◌, ℕ, ◌+◌, ◌<◌, ◌≤◌, zero, suc, Bool, true, false, Option, Some, None, List, [], ◌∷◌, ◌++◌, map, length, take, get_or, set, slice_get, refl, sym, ap, ◌∙◌, subst, inl, inr, arith, bytes_eq, ◌==◌, ◌&&◌, filter, ap₂}
 use Rattle.std.proofs.lemmas.Bool.{false≢true, or_cases, or_left, or_right, eqb-true, cases_eq}
 use Rattle.std.proofs.lemmas.List.{length-set, take_more}
 use Rattle.std.proofs.lemmas.List.Sums.{sum_by-cons}
@@ -12,6 +12,7 @@ use Rattle.circuit_laws.proofs.Names.{has_either, same_name}
 use Rattle.alg_div.specs.Cubes.{Has}
 use Rattle.alg_div.proofs.Lists.{Has-append}
 use Rattle.net_candidates.specs.Candidates.{literals_in}
+use Rattle.alg_tables.proofs.Quotients.{has_kept}
 use Rattle.net_candidates.specs.declared.rule.Rule.{Rule}
 use Rattle.net_readers.specs.Fanouts.{is_in}
 use Rattle.cover_names.specs.Literals.{Cube, NamedCover}
@@ -91,27 +92,28 @@ in_next places i place d at below is h =
     in_last (take i places) place at (subst (λ (ps : List ℕ). is_in ps at ≡ true) (take_more places i d below ∙ ap (λ (p : ℕ). take i places ++ p ∷ []) (sym is)) h)
 
 module _ (placed : Placed) (old new : KnownCovers) (grown : IsGrown placed old new) where
-  -- all covers that were listed under a name are right, and so are those that are listed there now
-  pub under_right : (covers : List NamedCover) (name : List ℕ) → covers ≡ covers_under old name → ((cover : NamedCover) → Has cover covers → IsRight placed (saving_in new) cover)
-      → (cover : NamedCover) → Has cover (covers_under new name) → IsRight placed (saving_in new) cover
-  under_right covers name is right cover m =
+  -- the covers that were listed under a name and are met are right, and so are those that are
+  -- listed there now
+  pub under_right : (covers : List NamedCover) (name : List ℕ) (met : NamedCover → Bool) → covers ≡ filter met (covers_under old name) → ((cover : NamedCover) → Has cover covers → IsRight placed (saving_in new) cover)
+      → (cover : NamedCover) → met cover ≡ true → Has cover (covers_under new name) → IsRight placed (saving_in new) cover
+  under_right covers name met is right cover by m =
       elim (grown.anew name cover m) as (λ _. IsRight placed (saving_in new) cover) [
-        | inl k ↦ right cover (subst (λ (cs : List NamedCover). Has cover cs) (sym is) k)
+        | inl k ↦ right cover (subst (λ (cs : List NamedCover). Has cover cs) (sym is) (has_kept met (covers_under old name) cover k by))
         | inr here ↦ here
       ]
 
   -- covers under names stay right
-  pub touched_next : (names : List (List ℕ)) (i : ℕ) (one d : List ℕ) → i < length names → one ≡ get_or names i d
-      → ((under : List ℕ) (cover : NamedCover) → has (take i names) under ≡ true → Has cover (covers_under old under) → IsRight placed (saving_in old) cover)
-      → ((cover : NamedCover) → Has cover (covers_under new one) → IsRight placed (saving_in new) cover)
-      → (under : List ℕ) (cover : NamedCover) → has (take (i + 1) names) under ≡ true → Has cover (covers_under new under) → IsRight placed (saving_in new) cover
-  touched_next names i one d below is before here under cover h m =
+  pub touched_next : (names : List (List ℕ)) (met : NamedCover → Bool) (i : ℕ) (one d : List ℕ) → i < length names → one ≡ get_or names i d
+      → ((under : List ℕ) (cover : NamedCover) → has (take i names) under ≡ true → met cover ≡ true → Has cover (covers_under old under) → IsRight placed (saving_in old) cover)
+      → ((cover : NamedCover) → met cover ≡ true → Has cover (covers_under new one) → IsRight placed (saving_in new) cover)
+      → (under : List ℕ) (cover : NamedCover) → has (take (i + 1) names) under ≡ true → met cover ≡ true → Has cover (covers_under new under) → IsRight placed (saving_in new) cover
+  touched_next names met i one d below is before here under cover h by m =
       elim (has_name_next names i one d under below is h) as (λ _. IsRight placed (saving_in new) cover) [
         | inl k ↦ elim (grown.anew under cover m) as (λ _. IsRight placed (saving_in new) cover) [
-          | inl n ↦ grown.right cover (before under cover k n)
+          | inl n ↦ grown.right cover (before under cover k by n)
           | inr right ↦ right
         ]
-        | inr e ↦ here cover (subst (λ (name : List ℕ). Has cover (covers_under new name)) e m)
+        | inr e ↦ here cover by (subst (λ (name : List ℕ). Has cover (covers_under new name)) e m)
       ]
 
   pub right_next : (covers : List NamedCover) (i : ℕ) (one d : NamedCover) → i < length covers → one ≡ get_or covers i d
@@ -226,31 +228,35 @@ own_literal rule now name sound new place covers own cover m = cases (table_at n
 
 -- ---- the whole
 
-module _ (rule : Rule) (placed : Placed) (old new : KnownCovers) (own : List (Option (List NamedCover))) (touched : List (List ℕ)) (fresh : List ℕ)
-    (notes : AreNotes rule placed (saving_in old) (covers_under old) own touched fresh) (grown : IsGrown placed old new)
-    (renewed : (under : List ℕ) (cover : NamedCover) → has touched under ≡ true → Has cover (covers_under new under) → IsRight placed (saving_in new) cover) where
+module _ (rule : Rule) (placed : Placed) (old new : KnownCovers) (own : List (Option (List NamedCover))) (touched : List (List ℕ)) (met : NamedCover → Bool) (fresh : List ℕ)
+    (notes : AreNotes rule placed (saving_in old) (covers_under old) own touched met fresh) (grown : IsGrown placed old new)
+    (renewed : (under : List ℕ) (cover : NamedCover) → has touched under ≡ true → met cover ≡ true → Has cover (covers_under new under) → IsRight placed (saving_in new) cover) where
   pub all_true : AreTrue rule placed new own
   all_true = record {
     found = grown.found notes.found;
-    right = λ cover number e. (let (name, m) = (grown.found notes.found).found cover number e in under cover name m (has touched name) refl number e);
+    right = λ cover number e. (let (name, m) = (grown.found notes.found).found cover number e in under cover name m (has touched name) (met cover) refl refl number e);
     lists = notes.lists;
     long = notes.long;
     noted = λ at covers e cover m. grown.noted cover (notes.noted at covers e cover m);
     shared = λ one other cover first second by. grown.noted cover (notes.shared one other cover first second by);
   }
     where
-      under : (cover : NamedCover) (name : List ℕ) → Has cover (covers_under new name) → (b : Bool) → has touched name ≡ b → IsRight placed (saving_in new) cover
-      under cover name m true h = renewed name cover h m
-      under cover name m false h =
+      calm : (cover : NamedCover) (name : List ℕ) → Has cover (covers_under new name) → (has touched name && met cover) ≡ false → IsRight placed (saving_in new) cover
+      calm cover name m h =
           elim (grown.anew name cover m) as (λ _. IsRight placed (saving_in new) cover) [
             | inl k ↦ grown.right cover (notes.exact name cover k h)
             | inr right ↦ right
           ]
 
+      under : (cover : NamedCover) (name : List ℕ) → Has cover (covers_under new name) → (a b : Bool) → has touched name ≡ a → met cover ≡ b → IsRight placed (saving_in new) cover
+      under cover name m true true h k = renewed name cover h k m
+      under cover name m true false h k = calm cover name m (ap₂ (λ (x y : Bool). x && y) h k)
+      under cover name m false b h k = calm cover name m (ap₂ (λ (x y : Bool). x && y) h k)
+
   pub all_settled : (last : KnownCovers) (last_own : List (Option (List NamedCover))) → AreTrue rule placed last last_own → ((at : ℕ) → IsListed own at → IsListed last_own at)
-      → ((at : ℕ) → is_in fresh at ≡ true → at < length placed.slots → IsListed last_own at) → (names : List (List ℕ)) (places : List ℕ)
-      → AreNotes rule placed (saving_in last) (covers_under last) last_own names places
-  all_settled last last_own is stay listed names places = record {
+      → ((at : ℕ) → is_in fresh at ≡ true → at < length placed.slots → IsListed last_own at) → (names : List (List ℕ)) (new_met : NamedCover → Bool) (places : List ℕ)
+      → AreNotes rule placed (saving_in last) (covers_under last) last_own names new_met places
+  all_settled last last_own is stay listed names new_met places = record {
     found = is.found;
     lists = is.lists;
     long = is.long;

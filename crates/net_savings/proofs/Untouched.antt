@@ -27,20 +27,21 @@ use Rattle.net_savings.proofs.Slots.{all_set}
 
 -- ---- one table
 
-module _ (name : List ℕ) (cover : NamedCover) (table : Table) (input : List ℕ) (named : has (names_in cover) input ≡ true) (unread : has table.inputs input ≡ false) where
-  untouched_stays : divided name true cover table ≡ table
-  untouched_stays = cases (is_over table.inputs cover) refl
-    where
-      cases : (b : Bool) → is_over table.inputs cover ≡ b → divided name true cover table ≡ table
-      cases true e = absurd (false≢true (sym unread ∙ over_names table.inputs cover input e named))
-      cases false e = unread_stays name true cover table e
+-- a table that does not read a name of a cover stays
+pub unread_all : (cover : NamedCover) (table : Table) (input : List ℕ) → has (names_in cover) input ≡ true → has table.inputs input ≡ false → (name : List ℕ) → divided name true cover table ≡ table
+unread_all cover table input named unread name = cases (is_over table.inputs cover) refl
+  where
+    cases : (b : Bool) → is_over table.inputs cover ≡ b → divided name true cover table ≡ table
+    cases true e = absurd (false≢true (sym unread ∙ over_names table.inputs cover input e named))
+    cases false e = unread_stays name true cover table e
 
+module _ (name : List ℕ) (cover : NamedCover) (table : Table) (stays : divided name true cover table ≡ table) where
   untouched_narrow : IsNarrow name cover table
-  untouched_narrow = inl untouched_stays
+  untouched_narrow = inl stays
 
   untouched_lost : lost_by name cover table ≡ 0
   untouched_lost =
-      let same : literals_of_table (divided name true cover table) ≡ literals_of_table table = ap literals_of_table untouched_stays in
+      let same : literals_of_table (divided name true cover table) ≡ literals_of_table table = ap literals_of_table stays in
       omega (arith, same)
 
 -- ---- one index
@@ -67,21 +68,21 @@ all_unset P (None ∷ slots) (suc place) old new there before all = all_unset P 
 all_unset P (Some first ∷ slots) zero old new there before all = (subst P (sym (same_Some first old there)) before, all.1)
 all_unset P (Some first ∷ slots) (suc place) old new there before all = (all.0, all_unset P slots place old new there before all.1)
 
-module _ (cover : NamedCover) (input : List ℕ) (named : has (names_in cover) input ≡ true) where
-  module _ (name : List ℕ) (slots : List (Option Table)) (place : ℕ) (old new : Table) (there : table_at slots place ≡ Some old) (before : has old.inputs input ≡ false) (now : has new.inputs input ≡ false) where
+module _ (cover : NamedCover) where
+  module _ (name : List ℕ) (slots : List (Option Table)) (place : ℕ) (old new : Table) (there : table_at slots place ≡ Some old) (before : divided name true cover old ≡ old) (now : divided name true cover new ≡ new) where
     set_sum : sum_by (lost_by name cover) (standing (set slots place (Some new))) ≡ sum_by (lost_by name cover) (standing slots)
-    set_sum = sum_set (lost_by name cover) slots place old new there (untouched_lost name cover old input named before) (untouched_lost name cover new input named now)
+    set_sum = sum_set (lost_by name cover) slots place old new there (untouched_lost name cover old before) (untouched_lost name cover new now)
 
     set_saving : (number : ℕ) → IsSaving (standing slots) name cover number → IsSaving (standing (set slots place (Some new))) name cover number
     set_saving number saving = record {
-      narrow = record { added = saving.narrow.added; changed = all_set (IsNarrow name cover) slots place new (untouched_narrow name cover new input named now) saving.narrow.changed };
+      narrow = record { added = saving.narrow.added; changed = all_set (IsNarrow name cover) slots place new (untouched_narrow name cover new now) saving.narrow.changed };
       exact = saving.exact ∙ sym set_sum;
       some = saving.some;
     }
 
     unset_saving : (number : ℕ) → IsSaving (standing (set slots place (Some new))) name cover number → IsSaving (standing slots) name cover number
     unset_saving number saving = record {
-      narrow = record { added = saving.narrow.added; changed = all_unset (IsNarrow name cover) slots place old new there (untouched_narrow name cover old input named before) saving.narrow.changed };
+      narrow = record { added = saving.narrow.added; changed = all_unset (IsNarrow name cover) slots place old new there (untouched_narrow name cover old before) saving.narrow.changed };
       exact = saving.exact ∙ set_sum;
       some = saving.some;
     }
@@ -92,15 +93,15 @@ module _ (cover : NamedCover) (input : List ℕ) (named : has (names_in cover) i
       one = λ other saving. worth.one other (unset_saving other saving);
     }
 
-  module _ (name : List ℕ) (tables : List Table) (new : Table) (now : has new.inputs input ≡ false) where
+  module _ (name : List ℕ) (tables : List Table) (new : Table) (now : divided name true cover new ≡ new) where
     push_sum : sum_by (lost_by name cover) (tables ++ new ∷ []) ≡ sum_by (lost_by name cover) tables
     push_sum =
-        let none : lost_by name cover new ≡ 0 = untouched_lost name cover new input named now in
+        let none : lost_by name cover new ≡ 0 = untouched_lost name cover new now in
         omega (arith, none, sum_by_push (lost_by name cover) tables new)
 
     push_saving : (number : ℕ) → IsSaving tables name cover number → IsSaving (tables ++ new ∷ []) name cover number
     push_saving number saving = record {
-      narrow = record { added = saving.narrow.added; changed = all_append (IsNarrow name cover) tables (new ∷ []) saving.narrow.changed (untouched_narrow name cover new input named now, tt) };
+      narrow = record { added = saving.narrow.added; changed = all_append (IsNarrow name cover) tables (new ∷ []) saving.narrow.changed (untouched_narrow name cover new now, tt) };
       exact = saving.exact ∙ sym push_sum;
       some = saving.some;
     }
@@ -120,18 +121,19 @@ module _ (cover : NamedCover) (input : List ℕ) (named : has (names_in cover) i
 
   -- ---- a network
 
-  pub exact_after_set : (now : Placed) (place number : ℕ) (old new : Table) → table_at now.slots place ≡ Some old → new.output ≡ old.output → has old.inputs input ≡ false → has new.inputs input ≡ false
+  pub exact_after_set : (now : Placed) (place number : ℕ) (old new : Table) → table_at now.slots place ≡ Some old → new.output ≡ old.output → ((name : List ℕ) → divided name true cover old ≡ old)
+      → ((name : List ℕ) → divided name true cover new ≡ new)
       → IsExact now cover number → IsExact (with_slot now place (Some new)) cover number
   unfolding given
   exact_after_set now place number old new there same before after exact = λ name undriven.
-      set_worth name now.slots place old new there before after number
+      set_worth name now.slots place old new there (before name) (after name) number
       (exact name (ap (λ (outputs : List (List ℕ)). has (now.frame.inputs ++ (latch_outputs (circuit_of now) ++ outputs)) name) (sym (outputs_set now.slots place old new (place_there now.slots place old there) same)) ∙ undriven))
 
-  pub exact_after_add : (now : Placed) (number : ℕ) (new : Table) → has new.inputs input ≡ false → IsExact now cover number → IsExact (with_last now new) cover number
+  pub exact_after_add : (now : Placed) (number : ℕ) (new : Table) → ((name : List ℕ) → divided name true cover new ≡ new) → IsExact now cover number → IsExact (with_last now new) cover number
   unfolding given
   exact_after_add now number new after exact = λ name undriven.
       subst (λ (tables : List Table). IsWorth tables name cover number) (sym (standing_push now.slots new))
-      (push_worth name (standing now.slots) new after number (exact name (fewer name undriven)))
+      (push_worth name (standing now.slots) new (after name) number (exact name (fewer name undriven)))
     where
       fewer : (name : List ℕ) → has (given (circuit_of (with_last now new))) name ≡ false → has (given (circuit_of now)) name ≡ false
       fewer name undriven =

@@ -1,7 +1,7 @@
 -- What candidates save, kept while tables are added and change: the saving that is set for each,
 -- which tables are listed, and what must be recomputed.
 -- Source: the project's own representation.
-use Rattle.std.specs.Prelude.{◌≡◌, ◌⊎◌, ℕ, ◌≤◌, Bool, false, true, Option, Some, None, List, length, slice_get}
+use Rattle.std.specs.Prelude.{◌≡◌, ◌⊎◌, ℕ, ◌≤◌, Bool, false, true, Option, Some, None, List, length, slice_get, ◌&&◌}
 use Rattle.std.specs.List.{list_any}
 use Rattle.circuit_model.specs.Names.{has}
 use Rattle.circuit_model.specs.Soundness.{given}
@@ -13,6 +13,7 @@ use Rattle.cover_names.specs.Literals.{NamedCover}
 use Rattle.cover_names.specs.Cubes.{names_in}
 use Rattle.net_work.specs.Placed.{Placed, standing, circuit_of, table_at}
 use Rattle.net_savings.specs.Listing.{AreKept, IsListed}
+use Rattle.net_savings.specs.Meeting.{is_met}
 use Rattle.net_savings.specs.Sharing.{IsSharedBy}
 use Rattle.net_savings.specs.Orders.{cover_eq}
 use Rattle.net_savings.specs.Ranking.{KnownCovers, saving_in, covers_under}
@@ -53,13 +54,13 @@ AreNoted saving own = (place : ℕ) (covers : List NamedCover) → slice_get own
 abbrev pub AreNotedShared : Rule → List (Option Table) → (NamedCover → Option ℕ) → List (Option (List NamedCover)) → Type 0
 AreNotedShared rule slots saving own = (one other : ℕ) (cover : NamedCover) → IsListed own one → IsListed own other → IsSharedBy rule slots one other cover → IsNoted saving cover
 
--- the savings of covers under names that were not touched are exact; all tables are listed except
--- those at fresh indices
-pub record AreNotes (rule : Rule) (placed : Placed) (saving : NamedCover → Option ℕ) (under : List ℕ → List NamedCover) (own : List (Option (List NamedCover))) (touched : List (List ℕ)) (fresh : List ℕ) : Type 0 where
+-- the savings of covers under names that were not touched are exact, and so are those of covers
+-- that are not met; all tables are listed except those at fresh indices
+pub record AreNotes (rule : Rule) (placed : Placed) (saving : NamedCover → Option ℕ) (under : List ℕ → List NamedCover) (own : List (Option (List NamedCover))) (touched : List (List ℕ)) (met : NamedCover → Bool) (fresh : List ℕ) : Type 0 where
   pub found : AreFound saving under
   pub lists : AreKept rule placed.slots own
   pub long : length own ≡ length placed.slots
-  pub exact : (name : List ℕ) (cover : NamedCover) → Has cover (under name) → has touched name ≡ false → IsRight placed saving cover
+  pub exact : (name : List ℕ) (cover : NamedCover) → Has cover (under name) → (has touched name && met cover) ≡ false → IsRight placed saving cover
   pub noted : AreNoted saving own
   pub shared : AreNotedShared rule placed.slots saving own
   pub listed : (place : ℕ) (table : Table) → table_at placed.slots place ≡ Some table → is_in fresh place ≡ false → IsListed own place
@@ -85,9 +86,13 @@ pub record AreTrue (rule : Rule) (placed : Placed) (known : KnownCovers) (own : 
 abbrev pub IsGrown : Placed → KnownCovers → KnownCovers → Type 0
 IsGrown placed known new = Grows placed (saving_in known) (covers_under known) (saving_in new) (covers_under new)
 
+-- the savings kept are those of the tables, by a test of the covers that changes met
+abbrev pub AreSavingsBy : Rule → Placed → CandidateQueue → (NamedCover → Bool) → Type 0
+AreSavingsBy rule placed kept met = AreNotes rule placed (saving_in kept.ranked) (covers_under kept.ranked) kept.own.items kept.touched.keys met kept.fresh.items
+
 -- the savings kept are those of the tables
 abbrev pub AreSavings : Rule → Placed → CandidateQueue → Type 0
-AreSavings rule placed kept = AreNotes rule placed (saving_in kept.ranked) (covers_under kept.ranked) kept.own.items kept.touched.keys kept.fresh.items
+AreSavings rule placed kept = AreSavingsBy rule placed kept (is_met kept.changed.items)
 
 -- a cover is in the list at an index
 abbrev pub IsIn : List (Option (List NamedCover)) → ℕ → NamedCover → Type 0

@@ -5,18 +5,20 @@
 //! literal or more. Callers rely on `saving` for the saving that was set last, and on `ranking` to
 //! begin with the covers that save most. After an error anything may be known.
 
-ghost use Rattle.std.specs.Prelude.{◌≡◌, ◌&&◌, ◌++◌, ◌∷◌, [], ℕ, List, Some, None, length, bytes_eq, is_none, if◌then◌else◌, IfOk, OnOk};
+ghost use Rattle.std.specs.Prelude.{◌≡◌, ◌&&◌, ◌++◌, ◌∷◌, [], ℕ, List, Some, None, filter, length, bytes_eq, is_none, if◌then◌else◌, IfOk, OnOk};
 ghost use Rattle.cover_names.specs.Literals.{NamedCover, cover_cmp};
 ghost use Rattle.net_queue.specs.Queue.{AreRanked};
+ghost use Rattle.net_savings.specs.Meeting.{is_met};
 ghost use Rattle.net_savings.specs.Orders.{cover_eq};
 ghost use Rattle.net_savings.specs.Ranking.{saving_in, covers_under, rank_in, greatest_first};
 
-use crate::named::list_new;
+use crate::marks::RowMarks;
+use crate::named::{list_new, met_of};
 use crate::ordered::OrderedCover;
 use crate::ranking::Savings;
 use circuit_model::Name;
 use indexmap::IndexMap;
-use sis_base::{Copied, Sequence};
+use sis_base::Sequence;
 use std::alloc::{AllocError, Global};
 use std::cmp::Reverse;
 use std::collections::BTreeSet;
@@ -83,13 +85,19 @@ impl RankedCovers {
         Ok(())
     }
 
-    /// The covers that are listed under a name.
-    pub(crate) fn under(&self, alloc: Global, name: &Name) -> Result<Vec<OrderedCover>, AllocError>
-        ensures { IfOk result (λ covers. covers.items ≡ covers_under self.now name.now) }
+    /// Those covers that are listed under a name and that rows meet.
+    pub(crate) fn met_under(
+        &self,
+        alloc: Global,
+        name: &Name,
+        rows: &RowMarks,
+    ) -> Result<Vec<OrderedCover>, AllocError>
+        ensures { IfOk result (λ covers. covers.items ≡ filter (is_met rows.now)
+            (covers_under self.now name.now)) }
     {
         match self.lists.get(name) {
             None => Ok(Vec::new(alloc)),
-            Some(list) => Ok(list.copy(alloc)?.into_vec()),
+            Some(list) => met_of(alloc, list.as_slice(), rows),
         }
     }
 

@@ -1,11 +1,12 @@
 //! What candidates save, kept while tables are added and change.
 //!
 //! Source: the project's own representation. A change only records which names and tables it
-//! touches; the savings of covers found under a touched name, and the candidates of touched tables,
-//! are recomputed before the next choice. Invariant (`AreSavings`): the saving that is set for any
-//! other cover is exact. Callers announce each change before they make it.
+//! touches, and the rows of these tables; the savings of covers found under a touched name that the
+//! rows meet, and the candidates of touched tables, are recomputed before the next choice.
+//! Invariant (`AreSavings`): the saving that is set for any other cover is exact. Callers announce
+//! each change before they make it.
 
-ghost use Rattle.std.specs.Prelude.{◌≡◌, ℕ, ◌<◌, true, false, Some, None, List, length, slice_get, IfOk, OnOk};
+ghost use Rattle.std.specs.Prelude.{◌≡◌, ℕ, ◌<◌, true, false, Some, None, List, length, slice_get, IfOk, OnOk, Bool};
 ghost use Rattle.circuit_model.specs.Names.{has};
 ghost use Rattle.circuit_model.specs.declared.circuit.Table.{Table};
 ghost use Rattle.net_candidates.specs.declared.rule.Rule.{Rule};
@@ -13,11 +14,14 @@ ghost use Rattle.net_readers.specs.Fanouts.{is_in};
 ghost use Rattle.cover_names.specs.Literals.{NamedCover};
 ghost use Rattle.net_core.specs.Tables.{named};
 ghost use Rattle.net_work.specs.Placed.{Placed, table_at, with_slot, with_last};
-ghost use Rattle.net_savings.specs.Savings.{AreSavings};
+ghost use Rattle.net_savings.specs.Meeting.{IsAside};
+ghost use Rattle.net_savings.specs.Savings.{AreSavings, AreSavingsBy};
 
 use crate::covers::RankedCovers;
+use crate::meeting::push_rows;
 use crate::owned::{OwnLists, taken};
 use circuit_model::Name;
+use cover_names::Cube;
 use cube_cover::Row;
 use indexmap::IndexSet;
 use net_core::CoverTable;
@@ -33,8 +37,10 @@ pub struct CandidateQueue {
     // What tables give by themselves, for those that are listed.
     pub(crate) own: OwnLists,
     // The names that changed tables read or have read: the savings of covers under them must be
-    // recomputed.
+    // recomputed if the rows of changed tables meet them.
     pub(crate) touched: IndexSet<Name>,
+    // The rows of changed tables, before and after each change.
+    pub(crate) changed: Vec<Cube>,
     // The indices of the tables that must be listed again.
     pub(crate) fresh: Vec<usize>,
     // If more covers than this are known, many may be given by no table any more, and all is
@@ -49,6 +55,7 @@ impl Drop for CandidateQueue {
             ranked: _ranked,
             own: _own,
             touched: _touched,
+            changed: _changed,
             fresh: _fresh,
             bound: _bound,
         } = self;
@@ -95,6 +102,7 @@ impl CandidateQueue {
             ranked: RankedCovers::new(alloc),
             own,
             touched: IndexSet::new(alloc),
+            changed: Vec::new(alloc),
             fresh,
             bound: usize::MAX,
         })
@@ -108,10 +116,12 @@ impl CandidateQueue {
         before: &[Name],
         now: &[Name],
     ) -> Result<(), AllocError>
-        ensures { OnOk result ((rule : Rule) (placed : Placed) (old new : Table)
-            → table_at placed.slots place ≡ Some old → new.output ≡ old.output → before.now
-            ≡ old.inputs → now.now ≡ new.inputs
-            → AreSavings rule placed self.old → AreSavings rule (with_slot placed place (Some new)) self.new) }
+        ensures rows { OnOk result (self.new.changed.items ≡ self.old.changed.items) }
+        ensures savings { OnOk result ((rule : Rule) (placed : Placed) (old new : Table)
+            (met new_met : NamedCover → Bool) → table_at placed.slots place ≡ Some old
+            → new.output ≡ old.output → before.now ≡ old.inputs → now.now ≡ new.inputs
+            → IsAside met new_met old new → AreSavingsBy rule placed self.old met
+            → AreSavingsBy rule (with_slot placed place (Some new)) self.new new_met) }
     {
         push_names(alloc, &mut self.touched, before)?;
         push_names(alloc, &mut self.touched, now)?;
@@ -136,8 +146,11 @@ impl CandidateQueue {
         match work.entry(place) {
             None => Ok(()),
             Some(entry) => {
+                push_rows(alloc, &mut self.changed, &entry.table)?;
+                push_rows(alloc, &mut self.changed, table)?;
                 let before = entry.table.inputs.as_slice();
-                self.touch(alloc, place, before, table.inputs.as_slice())
+                self.touch(alloc, place, before, table.inputs.as_slice())?;
+                Ok(())
             }
         }
     }
@@ -154,6 +167,7 @@ impl CandidateQueue {
             → AreSavings rule work.now self.old → AreSavings rule
             (with_last work.now (named output table.now)) self.new) }
     {
+        push_rows(alloc, &mut self.changed, table)?;
         push_names(alloc, &mut self.touched, table.inputs.as_slice())?;
         self.own.push(None)?;
         self.fresh.push(work.len())?;

@@ -2,10 +2,13 @@
 //!
 //! A cover is appended to the list under its name, and no cover is removed from a list.
 
-ghost use Rattle.std.specs.Prelude.{◌≡◌, ◌++◌, ◌∷◌, ◌&&◌, [], List, ℕ, bytes_eq, if◌then◌else◌, OnOk};
+ghost use Rattle.std.specs.Prelude.{◌≡◌, ◌++◌, ◌∷◌, ◌&&◌, [], List, ℕ, filter, bytes_eq, if◌then◌else◌, IfOk, OnOk};
 ghost use Rattle.indexmap.specs.IndexMap.{get};
+ghost use Rattle.net_savings.specs.Meeting.{is_met};
 ghost use Rattle.net_savings.specs.Ranking.{listed};
 
+use crate::marks::RowMarks;
+use crate::meeting::is_met;
 use crate::ordered::OrderedCover;
 use circuit_model::Name;
 use indexmap::IndexMap;
@@ -49,4 +52,21 @@ pub(crate) fn list_new(
         put_under(alloc, lists, name, copied)?;
     }
     Ok(())
+}
+
+/// Those of some covers that rows meet.
+pub(crate) fn met_of(
+    alloc: Global,
+    covers: &[OrderedCover],
+    rows: &RowMarks,
+) -> Result<Vec<OrderedCover>, AllocError>
+    ensures { IfOk result (λ met. met.items ≡ filter (is_met rows.now) covers.now) }
+{
+    let mut met = Vec::new(alloc);
+    for cover in covers {
+        if is_met(alloc, rows, cover.get().as_slice())? {
+            met.push(cover.copy(alloc)?)?;
+        }
+    }
+    Ok(met)
 }

@@ -1,7 +1,8 @@
 //! Brings the savings of candidates up to date after changes of the network.
 //!
-//! The savings of covers found under a touched name are recomputed, and fresh tables are listed
-//! again. Callers rely on no name being touched and no table fresh afterwards.
+//! The savings of covers found under a touched name that rows of changed tables meet are
+//! recomputed, and fresh tables are listed again. Callers rely on no name being touched and no
+//! table fresh afterwards.
 
 ghost use Rattle.std.specs.Prelude.{◌≡◌, [], IfErr, OnOk};
 ghost use Rattle.circuit_model.specs.Soundness.{IsSound};
@@ -44,7 +45,15 @@ pub(crate) fn refresh<R: Row>(
 {
     let touched = mem::replace(&mut kept.touched, IndexSet::new(alloc));
     let fresh = mem::replace(&mut kept.fresh, Vec::new(alloc));
-    renew_touched(alloc, work, name, &mut kept.ranked, touched.as_slice())?;
+    let changed = mem::replace(&mut kept.changed, Vec::new(alloc));
+    renew_touched(
+        alloc,
+        work,
+        name,
+        &mut kept.ranked,
+        changed,
+        touched.as_slice(),
+    )?;
     list_places(
         alloc,
         work,

@@ -1,5 +1,5 @@
-//! Computes and sets what covers save: again under touched names, and for covers that are not
-//! known.
+//! Computes and sets what covers save: again for covers under touched names that rows of changed
+//! tables meet, and for covers that are not known.
 //!
 //! A cover is found under the name of its literals that fewest tables read, counted when its saving
 //! was first set; no clause says which name it is. Callers rely on `IsGrown`: savings that are
@@ -13,15 +13,17 @@ ghost use Rattle.alg_div.specs.Cubes.{Has};
 ghost use Rattle.cover_names.specs.Literals.{NamedCover};
 ghost use Rattle.net_core.specs.Fresh.{IsNewName};
 ghost use Rattle.net_work.specs.Placed.{circuit_of};
+ghost use Rattle.net_savings.specs.Meeting.{is_met};
 ghost use Rattle.net_savings.specs.Ranking.{saving_in, covers_under};
 ghost use Rattle.net_candidates.specs.Candidates.{literals_in};
 ghost use Rattle.net_savings.specs.Savings.{IsRight, IsNoted, AreFound, IsGrown};
 
 use crate::covers::RankedCovers;
+use crate::marks::RowMarks;
 use crate::ordered::OrderedCover;
 use crate::saving::{rarest_name, saving_of};
 use circuit_model::Name;
-use cover_names::NamedCover;
+use cover_names::{Cube, NamedCover};
 use cube_cover::Row;
 use net_work::WorkingNetwork;
 use sis_base::Copied;
@@ -53,34 +55,36 @@ fn renew<R: Row>(
     }
 }
 
-// Recomputes what the covers under a name save.
+// Recomputes what the covers under a name that rows meet save.
 fn renew_under<R: Row>(
     alloc: Global,
     work: &WorkingNetwork<R>,
     name: &Name,
     ranked: &mut RankedCovers,
+    rows: &RowMarks,
     touched: &Name,
 ) -> Result<(), AllocError>
     requires sound { IsSound (circuit_of work.now) }
     requires free { IsNewName (circuit_of work.now) name.now }
     requires found { AreFound (saving_in ranked.old) (covers_under ranked.old) }
     ensures grown { OnOk result (IsGrown work.now ranked.old ranked.new) }
-    ensures right { OnOk result ((cover : NamedCover) → Has cover
+    ensures right { OnOk result ((cover : NamedCover) → is_met rows.now cover ≡ true → Has cover
         (covers_under ranked.new touched.now) → IsRight work.now (saving_in ranked.new) cover) }
 {
-    let covers = ranked.under(alloc, touched)?;
+    let covers = ranked.met_under(alloc, touched, rows)?;
     for cover in &covers {
         renew(alloc, work, name, ranked, cover)?;
     }
     Ok(())
 }
 
-/// Recomputes what the covers under names save.
+/// Recomputes what the covers under names that some rows meet save.
 pub(crate) fn renew_touched<R: Row>(
     alloc: Global,
     work: &WorkingNetwork<R>,
     name: &Name,
     ranked: &mut RankedCovers,
+    changed: Vec<Cube>,
     touched: &[Name],
 ) -> Result<(), AllocError>
     requires sound { IsSound (circuit_of work.now) }
@@ -88,10 +92,12 @@ pub(crate) fn renew_touched<R: Row>(
     requires found { AreFound (saving_in ranked.old) (covers_under ranked.old) }
     ensures grown { OnOk result (IsGrown work.now ranked.old ranked.new) }
     ensures right { OnOk result ((under : List ℕ) (cover : NamedCover) → has touched.now under ≡ true
-        → Has cover (covers_under ranked.new under) → IsRight work.now (saving_in ranked.new) cover) }
+        → is_met changed.items cover ≡ true → Has cover (covers_under ranked.new under)
+        → IsRight work.now (saving_in ranked.new) cover) }
 {
+    let rows = RowMarks::new(alloc, changed)?;
     for one in touched {
-        renew_under(alloc, work, name, ranked, one)?;
+        renew_under(alloc, work, name, ranked, &rows, one)?;
     }
     Ok(())
 }

@@ -1,0 +1,206 @@
+//! Rows, and for each of their literals which of them have it.
+//!
+//! Source: the project's own. Whether a row has all literals of a cube is read off the marks of its
+//! literals, one list of marks after the other. Callers rely on `has_holder` alone: the answer is
+//! exact. That each literal of the rows is marked beforehand no clause says.
+
+ghost use Rattle.std.specs.Prelude.{◌≡◌, ◌&&◌, Bool, true, Some, map, replicate, slice_get, if◌then◌else◌, IfOk, OnOk};
+ghost use Rattle.std.specs.List.{list_any};
+ghost use Rattle.indexmap.specs.IndexMap.{get};
+ghost use Rattle.net_candidates.specs.Candidates.{same_literal};
+ghost use Rattle.net_candidates.specs.Pairs.{has_all};
+ghost use Rattle.cover_names.specs.declared.literal.Literal.{Literal};
+ghost use Rattle.net_savings.specs.Meeting.{set_at, in_both, AreMarks};
+
+use cover_names::{Cube, Literal};
+use indexmap::IndexMap;
+use sis_base::Copied;
+use std::alloc::{AllocError, Global};
+use std::marker::Model;
+
+/// Rows; contracts see these, in order.
+#[derive(Drop)]
+pub(crate) struct RowMarks {
+    rows: Vec<Cube>,
+    marks: IndexMap<Literal, Vec<bool>>,
+}
+
+impl Model for RowMarks {
+    ghost use Rattle.std.specs.Prelude.{List};
+    ghost use Rattle.indexmap.specs.IndexMap.{get};
+    ghost use Rattle.net_candidates.specs.Candidates.{same_literal};
+    ghost use Rattle.cover_names.specs.Literals.{Cube};
+    ghost use Rattle.net_savings.specs.Meeting.{AreMarks};
+
+    ghost Value = { List Cube };
+
+    ghost view = { λ r. r.rows.items };
+
+    ghost invariant = { λ r. AreMarks r.rows.items (get same_literal r.marks) };
+}
+
+// Whether a cube has a literal.
+fn has_literal(cube: &[Literal], literal: &Literal) -> bool
+    ensures { result ≡ list_any (same_literal literal.now) cube.now }
+{
+    cube.iter().any(|other| *literal == *other)
+}
+
+// For each of some rows whether it has a literal.
+fn marks_of(alloc: Global, rows: &[Cube], literal: &Literal) -> Result<Vec<bool>, AllocError>
+    ensures { IfOk result (λ marks. marks.items ≡ map
+        (list_any (same_literal literal.now)) rows.now) }
+{
+    let mut marks = Vec::with_capacity(alloc, rows.len())?;
+    for row in rows {
+        marks.push(has_literal(row.as_slice(), literal))?;
+    }
+    Ok(marks)
+}
+
+// Sets the marks of a literal.
+fn put_marks(
+    marks: &mut IndexMap<Literal, Vec<bool>>,
+    literal: Literal,
+    made: Vec<bool>,
+) -> Result<(), AllocError>
+    ensures { OnOk result ((other : Literal) → get same_literal marks.new other
+        ≡ (if same_literal literal other then Some made else get same_literal marks.old other)) }
+{
+    let _none = marks.insert(literal, made)?;
+    Ok(())
+}
+
+// Marks the rows that have a literal, unless they are marked.
+fn mark_literal(
+    alloc: Global,
+    rows: &[Cube],
+    marks: &mut IndexMap<Literal, Vec<bool>>,
+    literal: &Literal,
+) -> Result<(), AllocError>
+    requires { AreMarks rows.now (get same_literal marks.old) }
+    ensures { OnOk result (AreMarks rows.now (get same_literal marks.new)) }
+{
+    if marks.contains_key(literal) {
+        return Ok(());
+    }
+    let made = marks_of(alloc, rows, literal)?;
+    let key = literal.copy(alloc)?;
+    put_marks(marks, key, made)?;
+    Ok(())
+}
+
+// Marks the rows that have a literal of a cube, for each of its literals.
+fn mark_literals(
+    alloc: Global,
+    rows: &[Cube],
+    marks: &mut IndexMap<Literal, Vec<bool>>,
+    cube: &[Literal],
+) -> Result<(), AllocError>
+    requires { AreMarks rows.now (get same_literal marks.old) }
+    ensures { OnOk result (AreMarks rows.now (get same_literal marks.new)) }
+{
+    for literal in cube {
+        mark_literal(alloc, rows, marks, literal)?;
+    }
+    Ok(())
+}
+
+// Marks the rows by all their literals.
+fn mark_rows(
+    alloc: Global,
+    rows: &[Cube],
+    marks: &mut IndexMap<Literal, Vec<bool>>,
+) -> Result<(), AllocError>
+    requires { AreMarks rows.now (get same_literal marks.old) }
+    ensures { OnOk result (AreMarks rows.now (get same_literal marks.new)) }
+{
+    for row in rows {
+        mark_literals(alloc, rows, marks, row.as_slice())?;
+    }
+    Ok(())
+}
+
+// Whether a mark is set, if there is one.
+fn is_set(marks: &[bool], place: usize) -> bool
+    ensures { result ≡ set_at (slice_get marks.now place) }
+{
+    match marks.get(place) {
+        None => false,
+        Some(mark) => *mark,
+    }
+}
+
+// Whether a mark is set in two lists.
+fn is_set_in_both(marks: &[bool], others: &[bool], place: usize) -> bool
+    ensures { result ≡ (set_at (slice_get marks.now place) && set_at (slice_get others.now place)) }
+{
+    is_set(marks, place) && is_set(others, place)
+}
+
+// For each of some marks whether it is set in another list too.
+fn set_in_both(alloc: Global, marks: &[bool], others: &[bool]) -> Result<Vec<bool>, AllocError>
+    ensures { IfOk result (λ made. made.items ≡ in_both marks.now others.now) }
+{
+    let mut made = Vec::with_capacity(alloc, marks.len())?;
+    for place in 0..marks.len() {
+        let both = is_set_in_both(marks, others, place);
+        made.push(both)?;
+    }
+    Ok(made)
+}
+
+// Whether a mark is set.
+fn is_some_set(marks: &[bool]) -> bool
+    ensures { result ≡ list_any (λ (mark : Bool). mark) marks.now }
+{
+    marks.iter().any(|mark| *mark)
+}
+
+// So many marks that are set.
+fn set_marks(alloc: Global, count: usize) -> Result<Vec<bool>, AllocError>
+    ensures { IfOk result (λ marks. marks.items ≡ replicate count true) }
+{
+    vec![in alloc; true; count]
+}
+
+impl RowMarks {
+    /// Rows, marked by their literals.
+    pub(crate) fn new(alloc: Global, rows: Vec<Cube>) -> Result<RowMarks, AllocError>
+        ensures { IfOk result (λ made. made ≡ rows.items) }
+    {
+        let mut marks = IndexMap::new(alloc);
+        mark_rows(alloc, rows.as_slice(), &mut marks)?;
+        Ok(RowMarks { rows, marks })
+    }
+
+    // For each of some marks of rows whether it is set and the row has a literal.
+    fn set_with(
+        &self,
+        alloc: Global,
+        held: &[bool],
+        literal: &Literal,
+    ) -> Result<Vec<bool>, AllocError>
+        ensures { IfOk result (λ made. made.items ≡ in_both held.now
+            (map (list_any (same_literal literal.now)) self.now)) }
+    {
+        match self.marks.get(literal) {
+            None => {
+                let marks = marks_of(alloc, self.rows.as_slice(), literal)?;
+                set_in_both(alloc, held, marks.as_slice())
+            }
+            Some(marks) => set_in_both(alloc, held, marks.as_slice()),
+        }
+    }
+
+    /// Whether a row has all literals of a cube.
+    pub(crate) fn has_holder(&self, alloc: Global, cube: &[Literal]) -> Result<bool, AllocError>
+        ensures { IfOk result (λ held. held ≡ list_any (has_all cube.now) self.now) }
+    {
+        let mut held = set_marks(alloc, self.rows.len())?;
+        for literal in cube {
+            held = self.set_with(alloc, held.as_slice(), literal)?;
+        }
+        Ok(is_some_set(held.as_slice()))
+    }
+}
