@@ -18,6 +18,8 @@ use Rattle.net_core.specs.declared.table.CoverTable.{CoverTable}
 use Rattle.net_core.proofs.Rows.{all_places_back}
 use Rattle.circuit_tables.specs.Tidy.{tidied}
 use Rattle.alg_tables.specs.Dividing.{quotient, rejoined, has_no_cube, quotient_by, is_undivided, divided, sorted_names, cover_table}
+use Rattle.alg_tables.specs.Containing.{rows_have_each}
+use Rattle.alg_tables.proofs.Containing.{none_without}
 use Rattle.alg_tables.proofs.Quotients.{quotient_found}
 use Rattle.alg_tables.proofs.Divisions.{joined_rows, ended_wide, both_wide}
 
@@ -122,6 +124,13 @@ undivided_stays name bit cover table e =
     (ap (λ (b : Bool). not (is_over table.inputs cover) || b) e
     ∙ or-true (not (is_over table.inputs cover)))
 
+-- and the cover does not divide it
+empty_undivided : (cover : NamedCover) (table : Table)
+    → has_no_cube (quotient_by cover table) ≡ true → true ≡ is_undivided cover table
+empty_undivided cover table e =
+    sym (ap (λ (b : Bool). not (is_over table.inputs cover) || b) e
+    ∙ or-true (not (is_over table.inputs cover)))
+
 -- another one is the rejoined table in normal form
 pub turned_is : (name : List ℕ) (bit : Bool) (cover : NamedCover) (table : Table)
     → is_over table.inputs cover ≡ true
@@ -199,9 +208,41 @@ module _ {R : Type 0} (table : CoverTable R) (name : List ℕ) (bit : Bool) (cov
       → map f xs ≡ q → answer ≡ eqb (length xs) 0 → answer ≡ true → (output : List ℕ)
       → true ≡ is_undivided cover (named output table)
   empty_whole f xs answer divisor q over wide same is read long none output =
-      sym (ap (λ (b : Bool). not (is_over (named output table).inputs cover) || b)
+      empty_undivided cover (named output table)
       (no_cube f xs answer divisor q over wide same is read long output ∙ none)
-      ∙ or-true (not (is_over (named output table).inputs cover)))
+
+  -- a cube of the divisor has literals that no row has all
+  lacking : (answer : Bool) (divisor : Shape) → IsOverInputs table
+      → HasWidth table.cover.width table.cover.rows
+      → divisor.rows ≡ map (row_over table.inputs) cover
+      → answer ≡ rows_have_each divisor.rows table.cover.rows → answer ≡ false
+      → (output : List ℕ) → has_no_cube (quotient_by cover (named output table)) ≡ true
+  unfolding named
+  lacking answer divisor over wide same is lacks output =
+      ap (λ (f : List (List (Option Bool))). has_no_cube (quotient (length table.inputs) f
+      (map (row_over table.inputs) cover))) (all_places_back table.cover.rows)
+      ∙ none_without (length table.inputs) table.cover.rows (map (row_over table.inputs) cover)
+      (subst (λ (n : ℕ). HasWidth n table.cover.rows) over wide)
+      (ap (λ (d : List (List (Option Bool))). rows_have_each d table.cover.rows) (sym same)
+      ∙ sym is ∙ lacks)
+
+  pub lacking_stays : (answer : Bool) (divisor : Shape) → IsOverInputs table
+      → HasWidth table.cover.width table.cover.rows
+      → divisor.rows ≡ map (row_over table.inputs) cover
+      → answer ≡ rows_have_each divisor.rows table.cover.rows → answer ≡ false
+      → (output : List ℕ) → divided name bit cover (named output table) ≡ named output table
+  lacking_stays answer divisor over wide same is lacks output =
+      undivided_stays name bit cover (named output table)
+      (lacking answer divisor over wide same is lacks output)
+
+  pub lacking_whole : (answer : Bool) (divisor : Shape) → IsOverInputs table
+      → HasWidth table.cover.width table.cover.rows
+      → divisor.rows ≡ map (row_over table.inputs) cover
+      → answer ≡ rows_have_each divisor.rows table.cover.rows → answer ≡ false
+      → (output : List ℕ) → true ≡ is_undivided cover (named output table)
+  lacking_whole answer divisor over wide same is lacks output =
+      empty_undivided cover (named output table)
+      (lacking answer divisor over wide same is lacks output)
 
   pub turned_whole : {X : Type 0} (f : X → List (Option Bool)) (xs : List X)
       (inputs : List (List ℕ)) (over_all answer : Bool) (divisor : Shape)

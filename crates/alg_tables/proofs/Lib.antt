@@ -4,5 +4,6 @@ pub mod Taken
 pub mod Steps
 pub mod Quotients
 pub mod Divisions
+pub mod Containing
 pub mod Divided
 pub mod CoverTables

@@ -4,24 +4,28 @@
 //! Optimization System" (1987): weak division and resubstitution. `divided_table` divides the
 //! table's rows by the cover over the table's inputs (alg_div), multiplies the quotient by the
 //! literal of a signal, the new last input, adds the remainder and brings the result to normal
-//! form. It returns `None` exactly if the cover does not divide the table. The rows of a table must
-//! be over its inputs; those of the result are.
+//! form. Before it divides, it looks for a row for each of the cover's cubes that has the cube's
+//! literals; if a cube has no such row, the quotient is empty. It returns `None` exactly if the
+//! cover does not divide the table. The rows of a table must be over its inputs; those of the result
+//! are.
 
 ghost use Rattle.std.specs.Prelude.{◌≡◌, ℕ, suc, Bool, true, Option, Some, None, is_none, List, [], ◌∷◌, ◌++◌, length, map, IfOk, IfSome, OnOk};
 ghost use Rattle.std.specs.List.{list_all};
 ghost use Rattle.std.specs.Ordering.{nat_cmp};
 ghost use Rattle.std.specs.Cmp.Lexicographic.{slice_cmp};
+ghost use Rattle.sis_base.specs.Rows.{HasWidth};
 ghost use Rattle.circuit_model.specs.Names.{has};
 ghost use Rattle.alg_div.specs.Steps.{literals_in};
 ghost use Rattle.cover_names.specs.Cubes.{row_over, is_over, names_in};
 ghost use Rattle.cover_names.specs.declared.literal.Literal.{Literal};
 ghost use Rattle.net_core.specs.Tables.{named, IsOverInputs};
 ghost use Rattle.alg_tables.specs.Dividing.{is_undivided, divided, sorted_names, cover_table};
+ghost use Rattle.alg_tables.specs.Containing.{some_row_has, rows_have_each};
 
 use alg_div::{cover_of, divide, literals_of};
 use circuit_model::{Name, Names, has_name};
 use cover_names::{Cube, Literal, row_over};
-use cube_cover::{Cover, Row};
+use cube_cover::{Cover, Row, contains_row};
 use net_core::{CoverTable, tidy};
 use sis_base::{Copied, Sequence};
 use std::alloc::{AllocError, Global};
@@ -137,6 +141,37 @@ fn rejoined_table<R: Row>(
     })
 }
 
+// Whether one of the rows has all literals of a cube.
+#[tactic(auto, using(cube_cover::proofs::Points::width_read))]
+fn some_row_has<R: Row>(cube: &R, rows: &[R]) -> bool
+    requires { HasWidth (length (R.literals cube.now)) (map R.literals rows.now) }
+    ensures { result ≡ some_row_has (R.literals cube.now) (map R.literals rows.now) }
+{
+    for row in rows {
+        if contains_row(cube, row) {
+            return true;
+        }
+    }
+    false
+}
+
+// Whether for each cube of a divisor one of a cover's rows has all its literals; if not, the
+// quotient of the cover is empty.
+#[tactic(auto, using(cube_cover::proofs::Points::width_read))]
+fn rows_have_each<R: Row>(divisor: &Cover<R>, cover: &Cover<R>) -> bool
+    requires { divisor.now.width ≡ cover.now.width }
+    ensures { result ≡ rows_have_each divisor.now.rows cover.now.rows }
+{
+    let rows = cover.rows();
+    let cubes = divisor.rows();
+    for cube in cubes {
+        if !some_row_has(cube, rows) {
+            return false;
+        }
+    }
+    true
+}
+
 /// The table divided by a cover, which the literal of `name` then replaces, the positive one if
 /// `bit` is true: the quotient's cubes with that literal and the remainder's rows, in normal form.
 /// `None` exactly if the cover does not divide it, so that it stays as it is: it does not read all
@@ -163,6 +198,9 @@ pub fn divided_table<R: Row>(
     let rows = rows_over(alloc, table.inputs.as_slice(), cover)?;
     let divisor = cover_of(alloc, table.inputs.len(), rows.as_slice())?;
     let _of_one_width = table.cover.rows();
+    if !rows_have_each(&divisor, &table.cover) {
+        return Ok(None);
+    }
     let (quotient, remainder) = divide(alloc, &table.cover, &divisor)?;
     if quotient.rows().is_empty() {
         return Ok(None);

@@ -1,7 +1,7 @@
 use Rattle.std.proofs.Common.{ap}
 use Rattle.cube_cover.specs.Covers.{Shape}
 use Rattle.alg_div.specs.Steps.{literals_in}
-use Rattle.alg_tables.proofs.Divided.{rows_placed, divisor_rows, unread, undivided, turned, unread_whole, empty_whole, turned_whole}
+use Rattle.alg_tables.proofs.Divided.{rows_placed, divisor_rows, unread, undivided, turned, unread_whole, lacking_stays, lacking_whole, empty_whole, turned_whole}
 use Rattle.alg_tables.proofs.dividing.divided_table.Goals as goal
 
 pub returns-then-not-is_cover_over-clause-none : goal.returns-then-not-is_cover_over-clause-none
@@ -22,6 +22,28 @@ cover_of-requires g c =
     (literals_in c.in_ok-rows.rows.items) (literals_in c.as_slice-3.result.now) c.len.ensures
     c.as_slice-2.ensures
     c.in_ok-rows.ensures (ap literals_in c.as_slice-3.ensures.value)
+
+pub returns-then-not-rows_have_each-clause-none : goal.returns-then-not-rows_have_each-clause-none
+returns-then-not-rows_have_each-clause-none g c = λ _.
+    lacking_stays c.args.table.now c.args.name.now c.args.bit c.args.cover.now
+    c.rows_have_each.result c.in_ok-divisor.divisor c.requires c.rows-of_one_width.ensures.widths
+    (divisor_rows c.args.table.now.inputs c.as_slice-2.result.now c.args.cover.now
+    c.in_ok-divisor.divisor (literals_in c.in_ok-rows.rows.items)
+    (literals_in c.as_slice-3.result.now) c.as_slice-2.ensures
+    c.in_ok-rows.ensures (ap literals_in c.as_slice-3.ensures.value)
+    (ap (λ (s : Shape). s.rows) c.in_ok-divisor.ensures))
+    c.rows_have_each.ensures c.if-not-rows_have_each.true
+
+pub returns-then-not-rows_have_each-clause-exact : goal.returns-then-not-rows_have_each-clause-exact
+returns-then-not-rows_have_each-clause-exact g c =
+    lacking_whole c.args.table.now c.args.name.now c.args.bit c.args.cover.now
+    c.rows_have_each.result c.in_ok-divisor.divisor c.requires c.rows-of_one_width.ensures.widths
+    (divisor_rows c.args.table.now.inputs c.as_slice-2.result.now c.args.cover.now
+    c.in_ok-divisor.divisor (literals_in c.in_ok-rows.rows.items)
+    (literals_in c.as_slice-3.result.now) c.as_slice-2.ensures
+    c.in_ok-rows.ensures (ap literals_in c.as_slice-3.ensures.value)
+    (ap (λ (s : Shape). s.rows) c.in_ok-divisor.ensures))
+    c.rows_have_each.ensures c.if-not-rows_have_each.true
 
 pub returns-then-is_empty-clause-none : goal.returns-then-is_empty-clause-none
 returns-then-is_empty-clause-none g c = λ _.
