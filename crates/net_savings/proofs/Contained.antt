@@ -52,7 +52,7 @@ any_back : {X : Type 0} (test : X → Bool) (xs ys : List X) → list_any test y
 any_back test [] ys h = h
 any_back test (x ∷ xs) ys h = or_right (test x) (list_any test (xs ++ ys)) (any_back test xs ys h)
 
-some_cube : (q : List (List (Option Bool))) → has_no_cube q ≡ false → (cube : List (Option Bool)) × Has cube q
+pub some_cube : (q : List (List (Option Bool))) → has_no_cube q ≡ false → (cube : List (Option Bool)) × Has cube q
 some_cube [] h = absurd (false≢true (sym h))
 some_cube (cube ∷ q) h = (cube, inl refl)
 
@@ -64,7 +64,7 @@ named_has name (first ∷ cube) h =
     let parts = or_parts (bytes_eq name first.name) (list_any (λ (other : Literal). bytes_eq name other.name) cube) h in
     has_apart first.name (names_of cube) name parts.0 (named_has name cube parts.1)
 
-apart_different : (cube : Cube) → is_apart cube ≡ true → all_different (names_of cube) ≡ true
+pub apart_different : (cube : Cube) → is_apart cube ≡ true → all_different (names_of cube) ≡ true
 apart_different [] h = different_none
 apart_different (literal ∷ cube) h =
     let parts = and_parts (not (list_any (λ (other : Literal). bytes_eq literal.name other.name) cube)) (is_apart cube) h in
@@ -130,11 +130,11 @@ product_has bits (x ∷ q) (first ∷ names) apart literal m k =
 
 -- the product of a cube of the quotient and a row of the divisor is a row, and they have no column
 -- in common
-record IsPart (rows : List (List (Option Bool))) (q k : List (Option Bool)) : Type 0 where
-  there : Has (times q k) rows
-  apart : AreApart q k
+pub record IsPart (rows : List (List (Option Bool))) (q k : List (Option Bool)) : Type 0 where
+  pub there : Has (times q k) rows
+  pub apart : AreApart q k
 
-quotient_part : (width : ℕ) (rows d : List (List (Option Bool))) (q : List (Option Bool)) → Has q (quotient width rows d) → (k : List (Option Bool)) → Has k d → IsPart rows q k
+pub quotient_part : (width : ℕ) (rows d : List (List (Option Bool))) (q : List (Option Bool)) → Has q (quotient width rows d) → (k : List (Option Bool)) → Has k d → IsPart rows q k
 unfolding quotient
 quotient_part width rows [] q m k n = absurd n
 quotient_part width rows (first ∷ d) q m k n =

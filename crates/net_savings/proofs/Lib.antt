@@ -10,6 +10,7 @@ pub mod Marking
 pub mod Losing
 pub mod Tabled
 pub mod Narrowing
+pub mod ByRows
 pub mod Found
 pub mod Unlisted
 pub mod Owning

@@ -24,7 +24,7 @@ use Rattle.sis_base.specs.declared.limits.TheConstants.{MAX_INPUTS}
 
 module _ (name : List ℕ) (cover : NamedCover) where
   -- a table that has fewer inputs than the limit
-  few_narrow : (table : Table) → all_different table.inputs ≡ true → has table.inputs name ≡ false → length table.inputs < MAX_INPUTS → IsNarrow name cover table
+  pub few_narrow : (table : Table) → all_different table.inputs ≡ true → has table.inputs name ≡ false → length table.inputs < MAX_INPUTS → IsNarrow name cover table
   few_narrow table once free few =
       elim (divided_or_not name true cover table) as (λ _. IsNarrow name cover table) [
         | inl way ↦ inr (let more : length (divided name true cover table).inputs ≤ length table.inputs + 1 = divided_few name true cover table once free way in omega (arith, few, more))

@@ -39,7 +39,7 @@ module _ (name : List ℕ) (cover : NamedCover) (table : Table) (stays : divided
   untouched_narrow : IsNarrow name cover table
   untouched_narrow = inl stays
 
-  untouched_lost : lost_by name cover table ≡ 0
+  pub untouched_lost : lost_by name cover table ≡ 0
   untouched_lost =
       let same : literals_of_table (divided name true cover table) ≡ literals_of_table table = ap literals_of_table stays in
       omega (arith, same)

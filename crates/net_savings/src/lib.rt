@@ -9,9 +9,9 @@
 //! and the tables are listed again: their own candidates (`own`), and the cubes that their rows
 //! share with others (`sharing`). Promised (`specs/Savings.antt`, `AreSavings`): savings that are
 //! begun for a network, and informed of each change, are those of the network; `best_saved` then
-//! returns exactly the next candidate, none exactly if extraction is done, or `ManyKernels` with the
-//! first table that has more kernels than are listed. This crate also has the indices of the tables
-//! that can be divided by a cover, and whether a cover leaves all tables narrow.
+//! returns exactly the next candidate, none exactly if extraction is done, or `ManyKernels` with
+//! the first table that has more kernels than are listed. This crate also has the indices of the
+//! tables that can be divided by a cover, and whether a cover leaves all tables narrow.
 //!
 //! What is known is kept in `RankedCovers`, of which is promised (`specs/Ranking.antt`): the saving
 //! that was set last for a cover is what it saves; the list under a name has exactly the covers
@@ -20,6 +20,7 @@
 //! and then in the order of covers. After an error anything may be known.
 #![tactic(auto)]
 
+mod by_rows;
 mod cover_set;
 mod covers;
 mod fault;

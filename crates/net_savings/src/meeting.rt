@@ -45,8 +45,8 @@ fn is_named(literals: &[Literal], literal: &Literal) -> bool
     literals.iter().any(|other| literal.name == other.name)
 }
 
-// Whether no name occurs twice in a cube.
-fn is_apart(cube: &[Literal]) -> bool
+/// Whether no name occurs twice in a cube.
+pub(crate) fn is_apart(cube: &[Literal]) -> bool
     ensures { result ≡ is_apart cube.now }
 {
     for (place, literal) in cube.iter().enumerate() {

@@ -4,10 +4,11 @@
 //! Source: Brayton, Rudell, Sangiovanni-Vincentelli and Wang, "MIS: A Multiple-Level Logic
 //! Optimization System" (1987): the value of a divisor is the literals that it saves. A table can
 //! be divided only if it reads all names of the cover, so only fanouts of one of them, the one with
-//! the fewest, are divided. Callers rely on `IsSaved`: the exact number, and none exactly if
+//! the fewest, are looked at, and divided only if their rows do not tell what they lose
+//! (`by_rows`). Callers rely on `IsSaved`: the exact number, and none exactly if
 //! nothing is saved or a table would have more than `MAX_INPUTS` inputs.
 
-ghost use Rattle.std.specs.Prelude.{◌≡◌, ℕ, ◌+◌, ◌-◌, ◌≤◌, ◌<◌, ltb, ◌&&◌, ◌⊎◌, true, false, Option, Some, List, length, IfOk, MatchOption};
+ghost use Rattle.std.specs.Prelude.{◌≡◌, ℕ, ◌+◌, ◌-◌, ◌≤◌, ◌<◌, ltb, ◌&&◌, ◌⊎◌, true, false, Option, Some, List, length, IfOk, IfSome, MatchOption};
 ghost use Rattle.std.specs.List.Sorted.{IsStrictlyIncreasing};
 ghost use Rattle.circuit_model.specs.Names.{has, all_different};
 ghost use Rattle.circuit_model.specs.Soundness.{IsSound};
@@ -22,6 +23,7 @@ ghost use Rattle.net_work.specs.Placed.{standing, circuit_of, table_at};
 ghost use Rattle.net_candidates.specs.Candidates.{literals_in};
 ghost use Rattle.net_savings.specs.Saving.{IsLoss, AreLosses, IsSaved};
 
+use crate::by_rows::{lacks_cube, loss_by_rows, sum_of};
 use alg_tables::{cover_table, divided_table};
 use circuit_model::{Name, has_name};
 use cover_names::{Cube, Literal};
@@ -116,9 +118,9 @@ fn is_wide<R: Row>(table: &CoverTable<R>, name: &Name) -> bool
     MAX_INPUTS < table.inputs.len() && has_name(table.inputs.as_slice(), name)
 }
 
-/// The number of literals that a table loses if it is divided by a cover; none if it would have too
-/// many inputs.
-pub(crate) fn loss_of<R: Row>(
+// The number of literals that a table loses if it is divided by a cover, which is divided for it;
+// none if it would have too many inputs.
+fn loss_by_division<R: Row>(
     alloc: Global,
     table: &CoverTable<R>,
     name: &Name,
@@ -144,6 +146,47 @@ pub(crate) fn loss_of<R: Row>(
     }
 }
 
+// The number of literals that a table loses by a cover of one cube, if its rows tell it.
+fn loss_by_one<R: Row>(
+    alloc: Global,
+    table: &CoverTable<R>,
+    cover: &[Cube],
+) -> Result<Option<u128>, AllocError>
+    requires over { IsOverInputs table.now }
+    requires once { all_different table.now.inputs ≡ true }
+    ensures { IfOk result (λ loss. IfSome loss (λ lost. (name output : List ℕ)
+        → has table.now.inputs name ≡ false
+        → IsLoss name cover.now (Some (named output table.now)) (Some lost))) }
+{
+    match cover {
+        [cube] => loss_by_rows(alloc, table, cube.as_slice()),
+        _ => Ok(None),
+    }
+}
+
+/// The number of literals that a table loses if it is divided by a cover; none if it would have too
+/// many inputs. The table is divided only if its rows do not tell the number.
+pub(crate) fn loss_of<R: Row>(
+    alloc: Global,
+    table: &CoverTable<R>,
+    name: &Name,
+    cover: &[Cube],
+) -> Result<Option<u128>, AllocError>
+    requires over { IsOverInputs table.now }
+    requires once { all_different table.now.inputs ≡ true }
+    requires free { has table.now.inputs name.now ≡ false }
+    ensures { IfOk result (λ loss. (output : List ℕ)
+        → IsLoss name.now cover.now (Some (named output table.now)) loss) }
+{
+    if lacks_cube(alloc, table, cover)? {
+        return Ok(Some(0));
+    }
+    match loss_by_one(alloc, table, cover)? {
+        Some(lost) => Ok(Some(lost)),
+        None => loss_by_division(alloc, table, name, cover),
+    }
+}
+
 // The number of literals that the table at an index loses, 0 if there is none.
 fn loss_at<R: Row>(
     alloc: Global,
@@ -159,17 +202,6 @@ fn loss_at<R: Row>(
     match work.entry(place) {
         None => Ok(Some(0)),
         Some(entry) => loss_of(alloc, &entry.table, name, cover),
-    }
-}
-
-// The sum of two numbers. An error if it is too large for a machine word; no machine has memory for
-// so many literals.
-fn sum_of(one: u128, other: u128) -> Result<u128, AllocError>
-    ensures { IfOk result (λ sum. sum ≡ one + other) }
-{
-    match one.checked_add(other) {
-        None => Err(AllocError),
-        Some(sum) => Ok(sum),
     }
 }
 

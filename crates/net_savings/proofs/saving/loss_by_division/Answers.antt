@@ -1,6 +1,6 @@
 use Rattle.std.proofs.Common.{sym, ◌∙◌}
 use Rattle.net_savings.proofs.Tabled.{loss_wide, loss_narrow}
-use Rattle.net_savings.proofs.saving.loss_of.Goals as goal
+use Rattle.net_savings.proofs.saving.loss_by_division.Goals as goal
 
 pub returns-then-is_wide : goal.returns-then-is_wide
 returns-then-is_wide g c =
