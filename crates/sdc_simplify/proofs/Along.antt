@@ -1,10 +1,8 @@
 -- One table of the order after the other has its turn.
-use Rattle.std.proofs.Common.{◌≡◌, ℕ, ◌<◌, ◌+◌, Bool, true, false, if◌then◌else◌, Option, Some, None, List, [], map, drop, length, get_or, refl, sym, ap, ◌∙◌, subst}
+use Rattle.std.proofs.Common.{◌≡◌, ℕ, ◌<◌, ◌+◌, Bool, false, if◌then◌else◌, Option, Some, None, List, [], map, drop, length, get_or, refl, sym, ap, ◌∙◌, subst}
 use Rattle.std.specs.Option.{option_map_or, option_or}
-use Rattle.std.proofs.lemmas.Option.{none-some}
 use Rattle.circuit_model.specs.Soundness.{IsSound}
 use Rattle.circuit_model.specs.declared.circuit.Table.{Table}
-use Rattle.circuit_model.specs.declared.circuit.Circuit.{Circuit}
 use Rattle.circuit_laws.specs.Edits.{with_tables, with_replaced}
 use Rattle.net_core.proofs.Removals.{tables_differ}
 use Rattle.net_work.specs.Placed.{Placed, standing, circuit_of, table_at, name_at, with_slot}
