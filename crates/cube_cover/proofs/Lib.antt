@@ -1,6 +1,8 @@
 pub mod Points
 pub mod Dashes
 pub mod Products
+pub mod Turned
+pub mod Orders
 pub mod Numbered
 pub mod Splits
 pub mod Dashed

@@ -4,6 +4,7 @@
 -- Circuits", chapter 7. Rows, points and matching are those of sis_base.
 use Rattle.std.specs.Prelude.{◌≡◌, ℕ, Bool, true, ◌&&◌, if◌then◌else◌, Option, Some, None, List, [], ◌∷◌, length, map, slice_index_or, slice_set}
 use Rattle.sis_base.specs.Rows.{agrees, matches, some_matches, IsPoint}
+use Rattle.cube_cover.specs.Literals.{literal_without, literal_shared}
 
 -- what contracts see of a cover: the number of inputs, and the rows in order
 pub record Shape : Type 0 where
@@ -32,6 +33,19 @@ product_of [] others = []
 product_of (literal ∷ literals) [] = []
 product_of (None ∷ literals) (other ∷ others) = other ∷ product_of literals others
 product_of (Some bit ∷ literals) (other ∷ others) = Some bit ∷ product_of literals others
+
+-- a row without its literals in the columns where the mask has one
+unfoldable pub without_of : List (Option Bool) → List (Option Bool) → List (Option Bool)
+without_of [] masks = []
+without_of (literal ∷ literals) [] = []
+without_of (literal ∷ literals) (mask ∷ masks) = literal_without literal mask ∷ without_of literals masks
+
+-- the literals that two rows have in common, and dashes elsewhere: the largest row of literals that
+-- contains both
+unfoldable pub shared_of : List (Option Bool) → List (Option Bool) → List (Option Bool)
+shared_of [] others = []
+shared_of (literal ∷ literals) [] = []
+shared_of (literal ∷ literals) (other ∷ others) = literal_shared literal other ∷ shared_of literals others
 
 -- the cofactor: the rows that agree with a bit in a column, without their literal there
 unfoldable pub cofactor_rows : ℕ → Bool → List (List (Option Bool)) → List (List (Option Bool))

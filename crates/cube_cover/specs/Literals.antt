@@ -3,6 +3,10 @@
 -- by column). Each column of a row has a literal, which is some bit (true for the positive one), or
 -- a dash, which is none.
 use Rattle.std.specs.Prelude.{is_none, if◌then◌else◌, cond, ℕ, ◌+◌, Bool, true, false, not, ◌&&◌, ◌||◌, Option, Some, None, List, [], ◌∷◌, slice_index_or}
+use Rattle.std.specs.Cmp.Lexicographic.{slice_cmp}
+use Rattle.std.specs.Option.{option_cmp}
+use Rattle.std.specs.Ordering.{bool_cmp}
+use Rattle.std.specs.declared.cmp.Ordering.{Ordering}
 use Rattle.sis_base.specs.Rows.{agrees}
 
 -- whether a literal is that of a bit; false for a dash
@@ -40,10 +44,24 @@ abbrev pub literal_product : Option Bool → Option Bool → Option Bool
 literal_product None other = other
 literal_product (Some bit) other = Some bit
 
+-- the literal, or a dash where the mask has a literal
+abbrev pub literal_without : Option Bool → Option Bool → Option Bool
+literal_without literal None = literal
+literal_without literal (Some bit) = None
+
+-- the literal that both are, or a dash
+abbrev pub literal_shared : Option Bool → Option Bool → Option Bool
+literal_shared None other = None
+literal_shared (Some bit) other = if has_literal other bit then Some bit else None
+
 -- some row contains the given one, literal by literal
 unfoldable pub some_contains : List (Option Bool) → List (List (Option Bool)) → Bool
 some_contains given [] = false
 some_contains given (row ∷ rows) = row_contains row given || some_contains given rows
+
+-- the order of rows, column by column, a dash before a negative before a positive literal
+abbrev pub row_cmp : List (Option Bool) → List (Option Bool) → Ordering
+row_cmp = slice_cmp (option_cmp bool_cmp)
 
 -- 1 for a literal, 0 for a dash
 abbrev pub literal_number : Option Bool → ℕ

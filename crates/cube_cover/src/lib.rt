@@ -12,6 +12,7 @@
 
 mod counts;
 mod cover;
+mod literals;
 mod picks;
 mod plain;
 mod row;

@@ -7,8 +7,9 @@
 
 ghost use Rattle.std.specs.Prelude.{◌≡◌, ℕ, ◌<◌, Bool, ◌↔◌, Option, None, List, length, map, replicate, slice_index_or, slice_set, IfOk, IsTrue};
 ghost use Rattle.cube_cover.specs.Covers.{Intersects, ContainsRow, IsProduct, product_of};
-ghost use Rattle.cube_cover.specs.Literals.{literals_intersect, rows_intersect, literal_contains, row_contains, literal_product};
+ghost use Rattle.cube_cover.specs.Literals.{literals_intersect, rows_intersect, literal_contains, row_contains};
 
+use crate::literals::product_literal;
 use crate::row::Row;
 use sis_base::{Copied, Short};
 use std::alloc::{AllocError, Global};
@@ -94,6 +95,15 @@ impl Row for PlainRow {
     fn is_equal(&self, other: &PlainRow) -> bool {
         self.literals.as_slice() == other.literals.as_slice()
     }
+
+    fn overlaid(&self, alloc: Global, other: &PlainRow) -> Result<PlainRow, AllocError> {
+        let literals = product_literals(
+            alloc,
+            self.literals.as_slice(),
+            other.literals.as_slice(),
+        )?;
+        Ok(PlainRow { literals })
+    }
 }
 
 // Whether two literals do not contradict.
@@ -114,16 +124,6 @@ fn contains_literal(literal: Option<bool>, other: Option<bool>) -> bool
         (None, _) => true,
         (Some(_), None) => false,
         (Some(bit), Some(second)) => bit == second,
-    }
-}
-
-// The first literal, or the other if the first is a dash.
-fn product_literal(literal: Option<bool>, other: Option<bool>) -> Option<bool>
-    ensures { result ≡ literal_product literal other }
-{
-    match literal {
-        Some(bit) => Some(bit),
-        None => other,
     }
 }
 

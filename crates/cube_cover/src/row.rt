@@ -1,10 +1,13 @@
 //! What every representation of a row owes, and what is found by that alone.
 
-ghost use Rattle.std.specs.Prelude.{◌≡◌, ℕ, ◌+◌, ◌^◌, ◌<◌, ◌≤◌, Bool, true, ◌↔◌, Option, Some, None, List, length, drop, replicate, slice_index_or, slice_set, IfSome, MatchOption, IfOk, IsTrue};
-ghost use Rattle.cube_cover.specs.Covers.{Intersects, ContainsRow, IsProduct, product_of};
-ghost use Rattle.cube_cover.specs.Literals.{literal_number, row_literals, not_dash, no_dash, all_dashes};
+ghost use Rattle.std.specs.Prelude.{◌≡◌, ℕ, ◌+◌, ◌^◌, ◌<◌, ◌≤◌, Bool, true, ◌↔◌, Option, Some, None, List, length, map, drop, replicate, slice_index_or, slice_set, IfSome, MatchOption, IfOk, IsTrue};
+ghost use Rattle.std.specs.Ordering.{is_eq};
+ghost use Rattle.cube_cover.specs.Covers.{Intersects, ContainsRow, IsProduct, product_of, without_of, shared_of};
+ghost use Rattle.cube_cover.specs.Literals.{row_cmp, row_literals, not_dash, no_dash, all_dashes};
 
+use crate::literals::{literal_number_of, product_literal, shared_literal, without_literal};
 use std::alloc::{AllocError, Global};
+use std::cmp::Ordering;
 
 /// A row of literals, a cube: each column has a positive literal, a negative one, or a dash
 /// (`None`).
@@ -81,6 +84,22 @@ pub trait Row: Drop {
         None
     }
 
+    /// The order of two rows of one width, column by column, a dash before a negative before a
+    /// positive literal; equal for the same literals alone.
+    fn compare(&self, other: &Self) -> Ordering
+        requires { length (literals self.now) ≡ length (literals other.now) }
+        ensures order { result ≡ row_cmp (literals self.now) (literals other.now) }
+        ensures exact { IsTrue (is_eq result) ↔ (literals self.now ≡ literals other.now) }
+    {
+        for column in 0..self.width() {
+            let order = self.at(column).cmp(&other.at(column));
+            if order.is_ne() {
+                return order;
+            }
+        }
+        Ordering::Equal
+    }
+
     /// The number of literals.
     #[tactic(auto, unfolding(crate::specs::Literals::row_literals))]
     fn literal_count(&self) -> usize
@@ -88,19 +107,64 @@ pub trait Row: Drop {
     {
         let mut count = 0;
         for column in 0..self.width() {
-            count += literals_at(self.at(column));
+            count += literal_number_of(self.at(column));
         }
         count
     }
-}
 
-// 1 for a literal, 0 for a dash.
-fn literals_at(place: Option<bool>) -> usize
-    ensures { result ≡ literal_number place }
-{
-    match place {
-        None => 0,
-        Some(_literal) => 1,
+    /// The row of what stands in the columns at some places, in their order; a dash for a place
+    /// past the width.
+    fn keep(&self, alloc: Global, places: &[usize]) -> Result<Self, AllocError>
+        ensures { IfOk result (λ row. literals row
+            ≡ map (λ place. slice_index_or (literals self.now) place None) places.now) }
+    {
+        let mut row = Self::dashes(alloc, places.len())?;
+        for (column, place) in places.iter().enumerate() {
+            if *place < self.width() {
+                row.set(column, self.at(*place));
+            }
+        }
+        Ok(row)
+    }
+
+    /// The row without its literals in the columns where the mask has one.
+    fn without(&self, alloc: Global, mask: &Self) -> Result<Self, AllocError>
+        requires { length (literals self.now) ≡ length (literals mask.now) }
+        ensures { IfOk result (λ row. literals row
+            ≡ without_of (literals self.now) (literals mask.now)) }
+    {
+        let mut row = self.copy(alloc)?;
+        for column in 0..self.width() {
+            row.set(column, without_literal(self.at(column), mask.at(column)));
+        }
+        Ok(row)
+    }
+
+    /// The row of the literals that both have.
+    fn shared(&self, alloc: Global, other: &Self) -> Result<Self, AllocError>
+        requires { length (literals self.now) ≡ length (literals other.now) }
+        ensures { IfOk result (λ row. literals row
+            ≡ shared_of (literals self.now) (literals other.now)) }
+    {
+        let mut row = self.copy(alloc)?;
+        for column in 0..self.width() {
+            row.set(column, shared_literal(self.at(column), other.at(column)));
+        }
+        Ok(row)
+    }
+
+    /// The row of this one's literals, and of the other's where this one has a dash. It is the
+    /// product where the two intersect, which they need not.
+    fn overlaid(&self, alloc: Global, other: &Self) -> Result<Self, AllocError>
+        requires { length (literals self.now) ≡ length (literals other.now) }
+        ensures { IfOk result (λ row. literals row
+            ≡ product_of (literals self.now) (literals other.now)) }
+    {
+        let mut row = self.copy(alloc)?;
+        for column in 0..self.width() {
+            row.set(column, product_literal(self.at(column), other.at(column)));
+        }
+        Ok(row)
     }
 }
 
