@@ -97,3 +97,13 @@ joined_at (w ∷ ws) (v ∷ vs) (suc k) j e = joined_at ws vs k j (omega arith)
 
 pub joined_bit : (ws vs : List ℕ) (column : ℕ) → length ws ≡ length vs → plane_bit (zip2 bit_or ws vs) column ≡ max (plane_bit ws column) (plane_bit vs column)
 joined_bit ws vs column e = joined_at ws vs (column / 64) (column % 64) e
+
+-- a column of the ones that two planes have in common
+common_at : (ws vs : List ℕ) (k j : ℕ) → bit_at (get_or (zip2 bit_and ws vs) k 0) j ≡ min (bit_at (get_or ws k 0) j) (bit_at (get_or vs k 0) j)
+common_at [] vs k j = omega (arith, bit_at-zero j)
+common_at (w ∷ ws) [] k j = omega (arith, bit_at-zero j)
+common_at (w ∷ ws) (v ∷ vs) zero j = bit_at_and w v j
+common_at (w ∷ ws) (v ∷ vs) (suc k) j = common_at ws vs k j
+
+pub common_bit : (ws vs : List ℕ) (column : ℕ) → plane_bit (zip2 bit_and ws vs) column ≡ min (plane_bit ws column) (plane_bit vs column)
+common_bit ws vs column = common_at ws vs (column / 64) (column % 64)

@@ -11,7 +11,7 @@ use Rattle.std.proofs.lemmas.Nat.Bits.{bit_at_xor, bit_at-lt, bit_at-zero, same_
 use Rattle.std.proofs.lemmas.Simd.{length-zip2, put_chunk_is, take_more_put_chunk}
 use Rattle.cube_packed.specs.Planes.{words_apart, words_within}
 use Rattle.cube_packed.proofs.PlaneBits.{same_answers}
-use Rattle.cube_packed.proofs.PlaneLoops.{IsJoinedTo, take_joined, drop_joined}
+use Rattle.cube_packed.proofs.PlaneLoops.{IsJoinedTo, take_zip2, drop_zip2}
 
 grouped : (a b c : Bool) → (a && (b && c)) ≡ ((a && b) && c)
 grouped true b c = refl
@@ -111,7 +111,7 @@ joined_block old others now i j e d g h t =
     let wide : length x ≡ 4 = length-take-le 4 (drop i now) (omega (arith, length-drop i now)) in
     let long : length y ≡ 4 = length-take-le 4 (drop i others) (omega (arith, length-drop i others)) in
     let four : length ys ≡ 4 = length-zip2 bit_or x y (wide ∙ sym long) ∙ wide in
-    let block : ys ≡ take 4 (drop i z) = ap (λ l. zip2 bit_or (take 4 l) y) t.rest ∙ sym (ap (take 4) (drop_joined i old others e) ∙ take_joined 4 (drop i old) (drop i others)) in
+    let block : ys ≡ take 4 (drop i z) = ap (λ l. zip2 bit_or (take 4 l) y) t.rest ∙ sym (ap (take 4) (drop_zip2 bit_or i old others e) ∙ take_zip2 bit_or 4 (drop i old) (drop i others)) in
     let end : j ≡ i + length ys = omega arith in
     let past : i + length ys ≡ i + 4 = omega arith in
     record {

@@ -1,5 +1,5 @@
 -- Literals and points of cubes by the bits of their planes.
-use Rattle.std.proofs.Common.{◌≡◌, ℕ, ◌+◌, ◌-◌, ◌*◌, ◌/◌, ◌%◌, ◌<◌, ◌≤◌, min, max, zero, suc, Bool, true, false, cond, ◌==◌, eqb-true, Option, Some, None, List, [], ◌∷◌, length, get_or, set, take, drop, replicate, refl, sym, ap, ◌∙◌, subst, arith, IsTrue, ◌↔◌, inl, inr, ◌⊎◌, bit_or}
+use Rattle.std.proofs.Common.{◌≡◌, ℕ, ◌+◌, ◌-◌, ◌*◌, ◌/◌, ◌%◌, ◌<◌, ◌≤◌, min, max, zero, suc, Bool, true, false, cond, ◌==◌, eqb-true, Option, Some, None, List, [], ◌∷◌, length, get_or, set, take, drop, replicate, refl, sym, ap, ◌∙◌, subst, arith, IsTrue, ◌↔◌, IfSome, inl, inr, ◌⊎◌, bit_and, bit_or}
 use Rattle.std.proofs.lemmas.Bool.{and_from, and_parts, cases_lt, cases_eq, eqb-false}
 use Rattle.std.proofs.lemmas.List.{length-map, length-take, length-drop, length-set, length-replicate, get_or-map, get_or-set_same, get_or-set_other, get_or-replicate, ext_get_or, take-replicate, drop-replicate}
 use Rattle.std.proofs.lemmas.List.FromFn.{length-range_with_len, get_or-range_with_len}
@@ -8,12 +8,14 @@ use Rattle.std.proofs.lemmas.Simd.{length-zip2}
 use Rattle.std.specs.Simd.Lanes.{zip2}
 use Rattle.std.specs.Int.{bit_at}
 use Rattle.std.specs.List.{range_with_len, refill}
-use Rattle.cube_cover.specs.Covers.{Intersects, ContainsRow, IsProduct, product_of}
-use Rattle.cube_cover.specs.Literals.{literals_intersect, rows_intersect, literal_contains, row_contains, literal_product}
+use Rattle.cube_cover.specs.Covers.{Intersects, ContainsRow, IsProduct, product_of, shared_of}
+use Rattle.cube_cover.specs.Literals.{literals_intersect, rows_intersect, literal_contains, row_contains, literal_product, literal_shared, not_dash, all_dashes}
 use Rattle.cube_cover.proofs.Products.{intersects_answer, contains_answer, test_from_intersects, product_points, length-product_of}
+use Rattle.cube_cover.proofs.Dashes.{all_from}
+use Rattle.cube_cover.proofs.Turned.{length-shared_of, shared_at}
 use Rattle.cube_packed.specs.Planes.{plane_words, plane_bit, literal_of, plane_literals, packed_literals, AreApart, IsWithin, AreCube, IsPacked, HasBitSet, has_sign}
-use Rattle.cube_packed.proofs.PlaneBits.{joined_bit, same_answers}
-use Rattle.cube_packed.proofs.PlaneLoops.{take_joined, drop_joined, refill_same}
+use Rattle.cube_packed.proofs.PlaneBits.{joined_bit, common_bit, same_answers}
+use Rattle.cube_packed.proofs.PlaneLoops.{take_zip2, drop_zip2, refill_same}
 
 -- ---- literals of columns
 pub length-plane_literals : (w : ℕ) (p n : List ℕ) → length (plane_literals w p n) ≡ w
@@ -31,7 +33,7 @@ plane_literal w p n i lt =
 pub literal_at : (row : List (Option Bool)) (p n : List ℕ) → plane_literals (length row) p n ≡ row → (i : ℕ) → i < length row → get_or row i None ≡ literal_of (plane_bit p i) (plane_bit n i)
 literal_at row p n e i lt = sym (ap (λ (l : List (Option Bool)). get_or l i None) e) ∙ plane_literal (length row) p n i lt
 
-literals_from_at : (w : ℕ) (p n : List ℕ) (row : List (Option Bool)) → length row ≡ w → ((i : ℕ) → i < w → literal_of (plane_bit p i) (plane_bit n i) ≡ get_or row i None) → plane_literals w p n ≡ row
+pub literals_from_at : (w : ℕ) (p n : List ℕ) (row : List (Option Bool)) → length row ≡ w → ((i : ℕ) → i < w → literal_of (plane_bit p i) (plane_bit n i) ≡ get_or row i None) → plane_literals w p n ≡ row
 literals_from_at w p n row e h =
     ext_get_or None (plane_literals w p n) row (length-plane_literals w p n ∙ sym e)
     (λ i lt. let le : i < w = omega (arith, length-plane_literals w p n) in plane_literal w p n i le ∙ h i le)
@@ -216,6 +218,66 @@ product_by_planes a b p n q m e ea eb ca cb h = (
         rw (joined_bit p q i wide, joined_bit n m i long, product_at a b i e, literal_at a p n ea i lt, literal_at b q m eb i (omega arith))
         (product_by_bits (plane_bit p i) (plane_bit n i) (plane_bit q i) (plane_bit m i) (both.1 i) (ca.apart i))
 
+-- ---- the common literals
+pub dash_of : (p n : ℕ) → p ≡ 0 → n ≡ 0 → literal_of p n ≡ None
+dash_of zero zero e h = refl
+dash_of zero (suc n) e h = absurd (omega arith)
+dash_of (suc p) n e h = absurd (omega arith)
+
+shared_by_bits : (p n q m : ℕ) → min p n ≡ 0 → min q m ≡ 0 → literal_of (min p q) (min n m) ≡ literal_shared (literal_of p n) (literal_of q m)
+shared_by_bits zero zero q m d e = dash_of (min zero q) (min zero m) (omega arith) (omega arith)
+shared_by_bits zero (suc n) zero zero d e = dash_of (min zero zero) (min (suc n) zero) (omega arith) (omega arith)
+shared_by_bits zero (suc n) zero (suc m) d e = negative_of (min zero zero) (min (suc n) (suc m)) (omega arith) (omega arith)
+shared_by_bits zero (suc n) (suc q) m d e = dash_of (min zero (suc q)) (min (suc n) m) (omega arith) (omega arith)
+shared_by_bits (suc p) n zero zero d e = dash_of (min (suc p) zero) (min n zero) (omega arith) (omega arith)
+shared_by_bits (suc p) n zero (suc m) d e = dash_of (min (suc p) zero) (min n (suc m)) (omega arith) (omega arith)
+shared_by_bits (suc p) n (suc q) m d e = positive_of (min (suc p) (suc q)) (min n m) (omega arith)
+
+-- the common literals of two rows are the common ones of their planes
+pub shared_by_planes : (a b : List (Option Bool)) (p n q m : List ℕ) → length a ≡ length b → plane_literals (length a) p n ≡ a → plane_literals (length b) q m ≡ b
+    → AreCube (length a) p n → AreCube (length b) q m
+    → (plane_literals (length a) (zip2 bit_and p q) (zip2 bit_and n m) ≡ shared_of a b) × AreCube (length a) (zip2 bit_and p q) (zip2 bit_and n m)
+shared_by_planes a b p n q m e ea eb ca cb = (
+  literals_from_at (length a) (zip2 bit_and p q) (zip2 bit_and n m) (shared_of a b) (length-shared_of a b e) each,
+  record {
+    positive_size = length-zip2 bit_and p q (ca.positive_size ∙ ap plane_words e ∙ sym cb.positive_size) ∙ ca.positive_size;
+    negative_size = length-zip2 bit_and n m (ca.negative_size ∙ ap plane_words e ∙ sym cb.negative_size) ∙ ca.negative_size;
+    apart = λ i. omega (arith, common_bit p q i, common_bit n m i, ca.apart i);
+    positive_end = λ i le. omega (arith, common_bit p q i, ca.positive_end i le);
+    negative_end = λ i le. omega (arith, common_bit n m i, ca.negative_end i le);
+  },
+)
+  where
+    each : (i : ℕ) → i < length a → literal_of (plane_bit (zip2 bit_and p q) i) (plane_bit (zip2 bit_and n m) i) ≡ get_or (shared_of a b) i None
+    each i lt =
+        rw (common_bit p q i, common_bit n m i, ← shared_at a b i e lt, literal_at a p n ea i lt, literal_at b q m eb i (omega arith))
+        (shared_by_bits (plane_bit p i) (plane_bit n i) (plane_bit q i) (plane_bit m i) (ca.apart i) (cb.apart i))
+
+-- ---- the next literal
+some_of : (p n : ℕ) → max p n ≡ 1 → not_dash (literal_of p n) ≡ true
+some_of zero zero h = absurd (omega arith)
+some_of zero (suc n) h = refl
+some_of (suc p) n h = refl
+
+dash_by_bits : (row : List (Option Bool)) (p n : List ℕ) (i : ℕ) → plane_literals (length row) p n ≡ row → i < length row → max (plane_bit p i) (plane_bit n i) ≡ 0 → get_or row i None ≡ None
+dash_by_bits row p n i e lt h = literal_at row p n e i lt ∙ dash_of (plane_bit p i) (plane_bit n i) (omega arith) (omega arith)
+
+pub all_dashes_by_bits : (row : List (Option Bool)) (p n : List ℕ) (from : ℕ) → plane_literals (length row) p n ≡ row → ((i : ℕ) → from ≤ i → max (plane_bit p i) (plane_bit n i) ≡ 0) → all_dashes (drop from row) ≡ true
+all_dashes_by_bits row p n from e h = all_from row from (length row) (omega arith) (λ i a b. dash_by_bits row p n i e b (h i a))
+
+pub found_by_bits : (row : List (Option Bool)) (p n : List ℕ) (width from : ℕ) (next : Option ℕ) → plane_literals (length row) p n ≡ row → width ≡ length row
+    → IfSome next (λ i. (from ≤ i) × (i < width) × (max (plane_bit p i) (plane_bit n i) ≡ 1)) → IfSome next (λ i. (from ≤ i) × (i < length row) × (not_dash (get_or row i None) ≡ true))
+found_by_bits row p n width from None e w h = h
+found_by_bits row p n width from (Some i) e w h =
+    let less : i < length row = omega (arith, h.1, w) in
+    (h.0, less, ap not_dash (literal_at row p n e i less) ∙ some_of (plane_bit p i) (plane_bit n i) h.2)
+
+pub before_by_bits : (row : List (Option Bool)) (p n : List ℕ) (width from : ℕ) (next : Option ℕ) → plane_literals (length row) p n ≡ row → width ≡ length row
+    → IfSome next (λ i. (from ≤ i) × (i < width) × (max (plane_bit p i) (plane_bit n i) ≡ 1))
+    → IfSome next (λ i. (place : ℕ) → from ≤ place → place < i → max (plane_bit p place) (plane_bit n place) ≡ 0) → IfSome next (λ i. (place : ℕ) → from ≤ place → place < i → get_or row place None ≡ None)
+before_by_bits row p n width from None e w f h = h
+before_by_bits row p n width from (Some i) e w f h = λ place a b. dash_by_bits row p n place e (omega (arith, b, f.1, w)) (h place a b)
+
 -- ---- one column is given a literal
 literal_by_signs : (l : Option Bool) → literal_of (cond (has_sign true l) 1 0) (cond (has_sign false l) 1 0) ≡ l
 literal_by_signs None = refl
@@ -309,8 +371,8 @@ product_at_width w ws vs made a b ea eb ha hb e h m =
     let first = opened w ws a ea ha in
     let second = opened w vs b eb hb in
     let whole = product_by_planes a b (take k ws) (drop k ws) (take k vs) (drop k vs) e first.0 second.0 first.1 second.1 h in
-    let front : take k made ≡ zip2 bit_or (take k ws) (take k vs) = ap (take k) m ∙ take_joined k ws vs in
-    let back : drop k made ≡ zip2 bit_or (drop k ws) (drop k vs) = ap (drop k) m ∙ drop_joined k ws vs (same_words w w ws vs a b ea eb ha hb e) in
+    let front : take k made ≡ zip2 bit_or (take k ws) (take k vs) = ap (take k) m ∙ take_zip2 bit_or k ws vs in
+    let back : drop k made ≡ zip2 bit_or (drop k ws) (drop k vs) = ap (drop k) m ∙ drop_zip2 bit_or k ws vs (same_words w w ws vs a b ea eb ha hb e) in
     let wide : length a ≡ w = sym (packed_width w ws a ea) in
     let halves = λ (p n : List ℕ) (u : ℕ). (plane_literals u p n ≡ product_of a b) × AreCube u p n in
     subst (λ (p : List ℕ). halves p (drop k made) w) (sym front)
@@ -325,6 +387,27 @@ product_packed w v ws vs made a b ea eb ha hb e h m =
 
 pub points_by_literals : (a b row : List (Option Bool)) → length a ≡ length b → Intersects a b → row ≡ product_of a b → IsProduct a b row
 points_by_literals a b row e h m = subst (λ (x : List (Option Bool)). IsProduct a b x) (sym m) (product_points a b e h)
+
+shared_at_width : (w : ℕ) (ws vs made : List ℕ) (a b : List (Option Bool)) → packed_literals w ws ≡ a → packed_literals w vs ≡ b → IsPacked w ws → IsPacked w vs → length a ≡ length b
+    → made ≡ zip2 bit_and ws vs → (packed_literals w made ≡ shared_of a b) × IsPacked w made
+shared_at_width w ws vs made a b ea eb ha hb e m =
+    let k = plane_words w in
+    let first = opened w ws a ea ha in
+    let second = opened w vs b eb hb in
+    let whole = shared_by_planes a b (take k ws) (drop k ws) (take k vs) (drop k vs) e first.0 second.0 first.1 second.1 in
+    let front : take k made ≡ zip2 bit_and (take k ws) (take k vs) = ap (take k) m ∙ take_zip2 bit_and k ws vs in
+    let back : drop k made ≡ zip2 bit_and (drop k ws) (drop k vs) = ap (drop k) m ∙ drop_zip2 bit_and k ws vs (same_words w w ws vs a b ea eb ha hb e) in
+    let wide : length a ≡ w = sym (packed_width w ws a ea) in
+    let halves = λ (p n : List ℕ) (u : ℕ). (plane_literals u p n ≡ shared_of a b) × AreCube u p n in
+    subst (λ (p : List ℕ). halves p (drop k made) w) (sym front)
+    (subst (λ (n : List ℕ). halves (zip2 bit_and (take k ws) (take k vs)) n w) (sym back) (subst (halves (zip2 bit_and (take k ws) (take k vs)) (zip2 bit_and (drop k ws) (drop k vs))) wide whole))
+
+-- the words of the common literals
+pub shared_packed : (w v : ℕ) (ws vs made : List ℕ) (a b : List (Option Bool)) → packed_literals w ws ≡ a → packed_literals v vs ≡ b → IsPacked w ws → IsPacked v vs → length a ≡ length b
+    → made ≡ zip2 bit_and ws vs → (packed_literals w made ≡ shared_of a b) × IsPacked w made
+shared_packed w v ws vs made a b ea eb ha hb e m =
+    let same : v ≡ w = packed_width v vs b eb ∙ sym e ∙ sym (packed_width w ws a ea) in
+    shared_at_width w ws vs made a b ea (subst (λ (u : ℕ). packed_literals u vs ≡ b) same eb) ha (subst (λ (u : ℕ). IsPacked u vs) same hb) e m
 
 -- the words after one column was given a literal
 pub set_packed : (w half i : ℕ) (ws old new : List ℕ) (row : List (Option Bool)) (l : Option Bool) → packed_literals w ws ≡ row → IsPacked w ws → i < length row → half ≡ plane_words w → old ≡ ws

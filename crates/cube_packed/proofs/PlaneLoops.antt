@@ -40,18 +40,30 @@ pub within_ends : (ws vs : List ℕ) (i : ℕ) → length ws ≤ i → words_wit
 unfolding words_within
 within_ends ws vs i h = rw (drop_all i ws h) refl
 
--- the halves of joined words
-pub take_joined : (k : ℕ) (ws vs : List ℕ) → take k (zip2 bit_or ws vs) ≡ zip2 bit_or (take k ws) (take k vs)
-take_joined zero ws vs = refl
-take_joined (suc k) [] vs = refl
-take_joined (suc k) (w ∷ ws) [] = refl
-take_joined (suc k) (w ∷ ws) (v ∷ vs) = ap (λ l. bit_or w v ∷ l) (take_joined k ws vs)
+-- the halves of words that are made from two lists
+module _ (f : ℕ → ℕ → ℕ) where
+  pub take_zip2 : (k : ℕ) (ws vs : List ℕ) → take k (zip2 f ws vs) ≡ zip2 f (take k ws) (take k vs)
+  take_zip2 zero ws vs = refl
+  take_zip2 (suc k) [] vs = refl
+  take_zip2 (suc k) (w ∷ ws) [] = refl
+  take_zip2 (suc k) (w ∷ ws) (v ∷ vs) = ap (λ l. f w v ∷ l) (take_zip2 k ws vs)
 
-pub drop_joined : (k : ℕ) (ws vs : List ℕ) → length ws ≡ length vs → drop k (zip2 bit_or ws vs) ≡ zip2 bit_or (drop k ws) (drop k vs)
-drop_joined zero ws vs e = refl
-drop_joined (suc k) [] vs e = refl
-drop_joined (suc k) (w ∷ ws) [] e = absurd (omega arith)
-drop_joined (suc k) (w ∷ ws) (v ∷ vs) e = drop_joined k ws vs (omega arith)
+  pub drop_zip2 : (k : ℕ) (ws vs : List ℕ) → length ws ≡ length vs → drop k (zip2 f ws vs) ≡ zip2 f (drop k ws) (drop k vs)
+  drop_zip2 zero ws vs e = refl
+  drop_zip2 (suc k) [] vs e = refl
+  drop_zip2 (suc k) (w ∷ ws) [] e = absurd (omega arith)
+  drop_zip2 (suc k) (w ∷ ws) (v ∷ vs) e = drop_zip2 k ws vs (omega arith)
+
+  -- one more word is made
+  pub made_more : (made ws vs : List ℕ) (i : ℕ) → length ws ≡ length vs → i < length ws → made ≡ take i (zip2 f ws vs)
+      → made ++ f (get_or ws i 0) (get_or vs i 0) ∷ [] ≡ take (i + 1) (zip2 f ws vs)
+  made_more made ws vs i e lt h =
+      let z = zip2 f ws vs in
+      let item : get_or z i 0 ≡ f (get_or ws i 0) (get_or vs i 0) = get_or-zip2 f ws vs i 0 0 0 lt (omega arith) in
+      ap (λ l. l ++ f (get_or ws i 0) (get_or vs i 0) ∷ []) h ∙ ap (λ x. take i z ++ x ∷ []) (sym item) ∙ sym (take_more z i 0 (omega (arith, length-zip2 f ws vs e)))
+
+  pub made_ends : (made ws vs : List ℕ) (i : ℕ) → length ws ≡ length vs → length ws ≤ i → made ≡ take i (zip2 f ws vs) → made ≡ zip2 f ws vs
+  made_ends made ws vs i e le h = h ∙ take_all i (zip2 f ws vs) (omega (arith, length-zip2 f ws vs e))
 
 -- a word of the product is stored: those before are done, those behind are as they were
 pub record IsJoinedTo (old others now : List ℕ) (i : ℕ) : Type 0 where

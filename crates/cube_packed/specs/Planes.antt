@@ -4,7 +4,7 @@
 -- in the negative plane for a negative literal, and in neither for a dash. Column 0 is the lowest
 -- bit of the first word.
 use Rattle.std.specs.Prelude.{◌≡◌, ℕ, ◌+◌, ◌/◌, ◌%◌, ◌≤◌, ◌==◌, min, zero, suc, Bool, true, false, ◌&&◌, cond, Option, Some, None, List, [], ◌∷◌, length, map, take, drop, bit_and, slice_index}
-use Rattle.std.specs.Int.{bit_at}
+use Rattle.std.specs.Int.{bit_at, bit_not, w64}
 use Rattle.std.specs.List.{range_with_len}
 
 -- the words of a plane
@@ -66,6 +66,10 @@ has_sign sign None = false
 has_sign true (Some bit) = bit
 has_sign false (Some true) = false
 has_sign false (Some false) = true
+
+-- the ones of a word that another does not have
+abbrev pub and_not : ℕ → ℕ → ℕ
+and_not word mask = bit_and word (bit_not w64 mask)
 
 -- no word has a one where the other's has one
 unfoldable pub words_apart : List ℕ → List ℕ → Bool

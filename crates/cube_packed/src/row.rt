@@ -124,4 +124,35 @@ impl Row for PackedRow {
             words,
         })
     }
+
+    fn shared(&self, alloc: Global, other: &PackedRow) -> Result<PackedRow, AllocError> {
+        let words = words::common(alloc, self.words.as_slice(), other.words.as_slice())?;
+        Ok(PackedRow {
+            width: self.width,
+            words,
+        })
+    }
+
+    fn next_literal(&self, from: usize) -> Option<usize> {
+        let (positive, negative) = self.planes();
+        words::next_one(positive, negative, self.width(), from)
+    }
+
+    fn without(&self, alloc: Global, mask: &PackedRow) -> Result<PackedRow, AllocError> {
+        let (positive, negative) = self.planes();
+        let (mask_positive, mask_negative) = mask.planes();
+        let masks = words::joined(alloc, mask_positive, mask_negative)?;
+        let mut words = SmallVec::with_capacity(alloc, self.words.len())?;
+        words::append_without(&mut words, positive, masks.as_slice())?;
+        words::append_without(&mut words, negative, masks.as_slice())?;
+        Ok(PackedRow {
+            width: self.width(),
+            words,
+        })
+    }
+
+    fn overlaid(&self, alloc: Global, other: &PackedRow) -> Result<PackedRow, AllocError> {
+        let free = other.without(alloc, self)?;
+        self.product(alloc, &free)
+    }
 }

@@ -5,9 +5,10 @@
 //! blocks of lanes, and the words that are left one at a time. Contracts speak of the bits of each
 //! column. Conditions of the caller: planes of one length, and columns that they have.
 
-ghost use Rattle.std.specs.Prelude.{◌≡◌, ◌+◌, ◌*◌, ◌<◌, ◌≤◌, ◌==◌, ◌↔◌, true, false, length, take, drop, bit_or, IfOk, IsTrue};
+ghost use Rattle.std.specs.Prelude.{◌≡◌, ◌+◌, ◌*◌, ◌<◌, ◌≤◌, ◌==◌, ◌↔◌, ◌^◌, ℕ, Option, None, max, true, false, ◌++◌, length, slice_index_or, take, drop, bit_and, bit_or, IfOk, IfSome, IsTrue};
 ghost use Rattle.std.specs.Simd.Lanes.{zip2};
-ghost use Rattle.cube_packed.specs.Planes.{plane_bit, AreApart, IsWithin, HasBitSet, has_sign, words_apart, words_within};
+ghost use Rattle.std.specs.Int.{bit_at};
+ghost use Rattle.cube_packed.specs.Planes.{plane_bit, AreCube, AreApart, IsWithin, HasBitSet, has_sign, words_apart, words_within, and_not};
 
 use smallvec::SmallVec;
 use std::alloc::{AllocError, Global};
@@ -108,12 +109,75 @@ fn join(words: &mut [u64], others: &[u64])
     }
 }
 
+/// The words with the ones that both have.
+pub fn common(
+    alloc: Global,
+    words: &[u64],
+    others: &[u64],
+) -> Result<SmallVec<u64, INLINE_WORDS>, AllocError>
+    requires { length words.now ≡ length others.now }
+    ensures { IfOk result (λ made. made.items ≡ zip2 bit_and words.now others.now) }
+{
+    let mut made = SmallVec::with_capacity(alloc, words.len())?;
+    for (place, word) in words.iter().enumerate() {
+        made.push(*word & others[place])?;
+    }
+    Ok(made)
+}
+
+/// Puts words behind others, without the ones that masks have.
+pub fn append_without(
+    made: &mut SmallVec<u64, INLINE_WORDS>,
+    words: &[u64],
+    masks: &[u64],
+) -> Result<(), AllocError>
+    requires { length words.now ≡ length masks.now }
+    ensures words { IfOk result (λ _. made.new.items
+        ≡ made.old.items ++ zip2 and_not words.now masks.now) }
+    ensures fit { (place : ℕ) → slice_index_or masks.now place 0 < 2 ^ 64 }
+{
+    for (place, word) in words.iter().enumerate() {
+        made.push(*word & !masks[place])?;
+    }
+    Ok(())
+}
+
 /// Whether a column has a one.
 pub fn has_bit(words: &[u64], column: usize) -> bool
     requires { column < 64 * length words.now }
     ensures { result ≡ (plane_bit words.now column == 1) }
 {
     (words[column / 64] >> (column % 64)) & 1 == 1
+}
+
+/// The first column at or after one that has a one in one of two planes.
+pub fn next_one(words: &[u64], others: &[u64], width: usize, from: usize) -> Option<usize>
+    requires { AreCube width words.now others.now }
+    ensures none { result ≡ None → (place : ℕ) → from ≤ place
+        → max (plane_bit words.now place) (plane_bit others.now place) ≡ 0 }
+    ensures found { IfSome result (λ column. (from ≤ column) × (column < width)
+        × (max (plane_bit words.now column) (plane_bit others.now column) ≡ 1)) }
+    ensures fits { IfSome result (λ column. column + 1 < 2 ^ 64) }
+    ensures before { IfSome result (λ column. (place : ℕ) → from ≤ place → place < column
+        → max (plane_bit words.now place) (plane_bit others.now place) ≡ 0) }
+{
+    for place in from / 64..words.len() {
+        let passed = from.saturating_sub(64 * place);
+        let ones = ones_from(words[place] | others[place], passed);
+        if ones != 0 {
+            return Some(64 * place + ones.trailing_zeros() as usize);
+        }
+    }
+    None
+}
+
+// The ones of a word from a bit on.
+fn ones_from(word: u64, bit: usize) -> u64
+    requires { bit < 64 }
+    ensures before { (i : ℕ) → i < bit → bit_at result i ≡ 0 }
+    ensures behind { (i : ℕ) → bit ≤ i → bit_at result i ≡ bit_at word i }
+{
+    word & !((1 << bit) - 1)
 }
 
 /// Gives a column a bit; the other columns stay.
