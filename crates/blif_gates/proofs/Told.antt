@@ -120,12 +120,12 @@ table_held P gate words all h =
     (held P words gate.output all (and_right _ _ named), each_held P words gate.pins all (and_left _ _ named))
 
 -- a signal of a word is a word
-all_dropped : (n : ℕ) (bytes : List ℕ) → list_all is_word_byte bytes ≡ true → list_all is_word_byte (drop n bytes) ≡ true
+pub all_dropped : (n : ℕ) (bytes : List ℕ) → list_all is_word_byte bytes ≡ true → list_all is_word_byte (drop n bytes) ≡ true
 all_dropped zero bytes h = h
 all_dropped (suc n) [] h = refl
 all_dropped (suc n) (byte ∷ bytes) h = all_dropped n bytes (and_right _ _ h)
 
-signal_word : (word : List ℕ) → is_word word ≡ true → is_pair word ≡ true → is_word (signal_in word) ≡ true
+pub signal_word : (word : List ℕ) → is_word word ≡ true → is_pair word ≡ true → is_word (signal_in word) ≡ true
 unfolding is_word behind
 signal_word word w p = and_from _ _ p (all_dropped _ word (and_right _ _ w))
 

@@ -33,7 +33,7 @@ fn front_len(word: &[u8]) -> usize
 
 /// The bytes before the first `=`.
 #[tactic(auto, using(genlib_format::proofs::Steps::before_taken))]
-fn pin_in(word: &[u8]) -> &[u8]
+pub fn pin_in(word: &[u8]) -> &[u8]
     ensures { result.now ≡ pin_in word.now }
 {
     &word[..front_len(word)]
@@ -41,14 +41,14 @@ fn pin_in(word: &[u8]) -> &[u8]
 
 /// The bytes after the first `=`; none if there is no `=`.
 #[tactic(auto, unfolding(genlib_format::specs::Words::behind), using(std::proofs::lemmas::List::drop_min, std::proofs::lemmas::Grind::common_steps))]
-fn signal_in(word: &[u8]) -> &[u8]
+pub fn signal_in(word: &[u8]) -> &[u8]
     ensures { result.now ≡ signal_in word.now }
 {
     &word[(front_len(word) + 1).min(word.len())..]
 }
 
 /// Whether something follows the first `=`.
-fn is_pair(word: &[u8]) -> bool
+pub fn is_pair(word: &[u8]) -> bool
     ensures { result ≡ is_pair word.now }
 {
     match signal_in(word) {

@@ -93,14 +93,14 @@ places_end tables left old none h = fun_ext (λ query. by left none (h query))
     by zero e k = k
     by (suc n) e k = absurd (omega (arith, e))
 
--- the indices of one more name
-pub places_more : (place : List ℕ → Option ℕ) (inputs : List (List ℕ)) (i : ℕ) (input : List ℕ) (places after : List ℕ) → i < length inputs → input ≡ get_or inputs i input
+-- the indices of one more item
+pub places_more : {A : Type 0} (place : A → Option ℕ) (inputs : List A) (i : ℕ) (input : A) (places after : List ℕ) → i < length inputs → input ≡ get_or inputs i input
     → places ≡ filter_map place (take i inputs) → after ≡ places ++ option_to_list (place input) → after ≡ filter_map place (take (i + 1) inputs)
-places_more place inputs i input places after lt is so e =
+places_more {A = A} place inputs i input places after lt is so e =
     e ∙ ap (λ (some : List ℕ). some ++ option_to_list (place input)) so
     ∙ ap (λ (some : List ℕ). filter_map place (take i inputs) ++ some) (single (place input))
     ∙ sym (filter_map-append place (take i inputs) (input ∷ []))
-    ∙ ap (λ (one : List ℕ). filter_map place (take i inputs ++ one ∷ [])) is
+    ∙ ap (λ (one : A). filter_map place (take i inputs ++ one ∷ [])) is
     ∙ ap (filter_map place) (sym (take_more inputs i input lt))
   where
     single : (o : Option ℕ) → option_to_list o ≡ cons_option o []

@@ -120,7 +120,7 @@ fn places_of(
 }
 
 /// Appends an index, if there is one.
-fn add_place(places: &mut Sequence<usize>, place: Option<usize>) -> Result<(), AllocError>
+pub fn add_place(places: &mut Sequence<usize>, place: Option<usize>) -> Result<(), AllocError>
     ensures { OnOk result (places.new ≡ places.old ++ option_to_list place) }
 {
     if let Some(place) = place {

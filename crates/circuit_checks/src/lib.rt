@@ -25,8 +25,8 @@ mod name_set;
 mod part_check;
 mod search;
 
-pub use cycle::first_on_cycle;
+pub use cycle::{add_place, first_on_cycle};
 pub use graph_cycle::first_cyclic;
 pub use name_check::{first_again, first_listed_twice, first_missing};
 pub use part_check::first_bad_part_name;
-pub use search::{is_seen, note_all, unmarked};
+pub use search::{is_seen, note_all, reached, unmarked};

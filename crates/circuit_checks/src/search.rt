@@ -29,7 +29,7 @@ pub fn leads(
     requires { IsGraph graph.now }
     ensures { IfOk result (λ led. led ≡ leads graph.now (length graph.now) from to) }
 {
-    let seen = found(alloc, graph, from)?;
+    let seen = reached(alloc, graph, from)?;
     Ok(is_seen(seen.as_slice(), to))
 }
 
@@ -42,7 +42,11 @@ pub fn is_seen(seen: &[bool], place: usize) -> bool
 }
 
 /// The marks of all nodes to which a node leads.
-fn found(alloc: Global, graph: &[Sequence<usize>], from: usize) -> Result<Vec<bool>, AllocError>
+pub fn reached(
+    alloc: Global,
+    graph: &[Sequence<usize>],
+    from: usize,
+) -> Result<Vec<bool>, AllocError>
     requires { IsGraph graph.now }
     ensures { IfOk result (λ seen. (place : ℕ) → is_seen seen.items place ≡ leads graph.now
         (length graph.now) from place) }

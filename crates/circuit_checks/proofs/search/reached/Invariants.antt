@@ -1,6 +1,6 @@
 use Rattle.std.proofs.Common.{◌+◌, length}
 use Rattle.circuit_checks.proofs.Marking.{Searched, unseen}
-use Rattle.circuit_checks.proofs.search.found.Given as goal
+use Rattle.circuit_checks.proofs.search.reached.Given as goal
 
 abbrev pub invariant-loop-place : goal.invariant-loop-place
 invariant-loop-place l = Searched l.graph l.from l.seen.items l.pending.items

@@ -2,7 +2,7 @@ use Rattle.std.proofs.Common.{◌≡◌, ◌∙◌, ◌++◌, ◌∷◌, [], Boo
 use Rattle.std.proofs.lemmas.List.{length-replicate, nil_from_length}
 use Rattle.circuit_checks.specs.Searching.{marks, fresh}
 use Rattle.circuit_checks.proofs.Marking.{at_start, at_step, at_end, step_below, step_falls}
-use Rattle.circuit_checks.proofs.search.found.Goals as goal
+use Rattle.circuit_checks.proofs.search.reached.Goals as goal
 
 pub note_all-requires : goal.note_all-requires
 note_all-requires c =
