@@ -13,18 +13,18 @@ use Rattle.sis_text.specs.Entries.{Entry}
 use Rattle.line_words.specs.LineWords.{other_words}
 use Rattle.genlib_format.specs.declared.gate.Gate.{Gate as TheGate}
 use Rattle.blif_lines.specs.Keyword.{kind_of, is_row, is_row_kind}
-use Rattle.blif_lines.specs.Lines.{when, first_of, input_words, last_word, is_none, is_end_kind, is_ended, begins_part, has_part, begins_kiss, has_kiss, part_behind, is_behind, is_latch, is_node_kind, nodes_in, joined, output_character, has_phase_of, table_row_fault, heading, rows_behind, row_fault_under, row_fault, model_fault, ports_fault, clock_fault, names_fault, latch_fault, gate_fault, start_fault, place_fault, fault_as, line_fault}
-use Rattle.blif_lines.specs.Reader.{first_line_fault, of_lines, model_lines, part_lines, listed_inputs, listed_outputs, listed_ports, listed_clocks, is_inputs_kind, is_outputs_kind, lists_inputs, lists_outputs, names_beside, inputs_in, outputs_in, ports_in, clocks_in, latch_input, latch_output, gate_tables, gate_inputs, driven_by, read_within, read_by, drives_in, reads_within, reads_in, latch_of, latches_by, latches_in, timing_of, is_latch_line, latch_lines, timing_at, first_timing, timing_in, same_timing, mixed_clock, gated_clock, row_of, phase_by, table_of, tables_by, tables_in, named_by, model_name, circuit_of, model_names_fault, whole_fault, has_nodes, is_machine, head_of, head_fault, unless, read_whole, first_fault, read_lines}
+use Rattle.blif_lines.specs.Lines.{when, first_of, input_words, last_word, is_none, is_end_kind, is_ended, begins_part, has_part, begins_kiss, has_kiss, part_behind, is_behind, is_latch, is_node_kind, nodes_in, joined, output_character, has_phase_of, table_row_fault, heading, rows_behind, row_fault_under, row_fault, model_fault, ports_fault, clock_fault, names_fault, latch_fault, gate_fault, subckt_fault, start_fault, place_fault, fault_as, line_fault}
+use Rattle.blif_lines.specs.Reader.{first_line_fault, of_lines, model_lines, part_lines, listed_inputs, listed_outputs, listed_ports, listed_clocks, is_inputs_kind, is_outputs_kind, lists_inputs, lists_outputs, names_beside, inputs_in, outputs_in, ports_in, clocks_in, latch_input, latch_output, gate_tables, gate_inputs, driven_by, read_within, read_by, drives_in, reads_within, reads_in, latch_of, latches_by, latches_in, timing_of, is_latch_line, latch_lines, timing_at, first_timing, timing_in, same_timing, mixed_clock, gated_clock, row_of, phase_by, table_of, tables_by, tables_in, named_by, model_name, circuit_of, model_names_fault, whole_fault, has_nodes, is_instance_kind, has_instances, is_machine, head_of, head_fault, unless, read_whole, first_fault, read_lines}
 use Rattle.blif_lines.specs.Steps.{mark_for, width_of, reading_fault, fault_behind, next_fault, with_row, row_behind, tables_with, closed, place_at, place_of, draft_fault, with_more, timing_with, mixed_with, with_line, take_as, take_entry, take_entries, no_lines, model_of, part_of, listed_or, Kept, kept_of, timing_fault, drivers_fault, tables_fault, listed_fault, kept_fault, read_kept_as, read_kept, finished, finish}
 use Rattle.blif_lines.specs.declared.content.Content.{Content}
 use Rattle.blif_lines.specs.declared.content.Content.TheVariants as content
 use Rattle.blif_lines.specs.declared.keyword.Keyword.{Keyword}
-use Rattle.blif_lines.specs.declared.keyword.Keyword.TheVariants.{Model, Inputs, Outputs, Clock, Names, Latch, Gate, StartKiss, DontCare, End, Skipped, Row, Other}
+use Rattle.blif_lines.specs.declared.keyword.Keyword.TheVariants.{Model, Inputs, Outputs, Clock, Names, Latch, Gate, Subckt, StartKiss, DontCare, End, Skipped, Row, Other}
 use Rattle.blif_lines.specs.declared.fault.BlifFault.{BlifFault}
 use Rattle.blif_lines.specs.declared.fault.BlifFault.TheVariants.{UnknownWord}
 use Rattle.blif_lines.specs.declared.draft.Reading.{Reading}
 use Rattle.blif_lines.specs.declared.draft.Draft.{Draft}
-use Rattle.blif_lines.proofs.Faults.{begins, own_clock, own_latch, own_gate, own_start, own_place, unbegun, right_latch, right_gate}
+use Rattle.blif_lines.proofs.Faults.{begins, own_clock, own_latch, own_gate, own_subckt, own_start, own_place, unbegun, right_latch, right_gate}
 use Rattle.blif_lines.proofs.Gates.{one_gate}
 
 -- tests
@@ -107,6 +107,7 @@ row_fault_is (Some line) rows number bytes = by (kind_of line)
     by Names = fault_read (length (other_words line.words) - 1) (other_words line.words) rows number bytes refl
     by Latch = refl
     by Gate = refl
+    by Subckt = refl
     by StartKiss = refl
     by DontCare = refl
     by End = refl
@@ -130,8 +131,7 @@ place_is back draft t = rw (t.ended, t.part) refl
 
 pub fault_agrees : (library : Option (List TheGate)) (kind : Keyword) (back : List Entry) (draft : Draft) (number : ℕ) (words whole : List (List ℕ)) → Tells back draft → draft_fault library kind draft number words whole ≡ fault_as library kind back number words whole
 unfolding next_fault
-fault_agrees library Model back draft number words whole t =
-    ap (λ b. model_fault (place_of draft) b number words) t.begun ∙ ap (λ place. model_fault place (not (is_none back)) number words) (place_is back draft t)
+fault_agrees library Model back draft number words whole t = ap (λ b. model_fault b number words) t.begun
 fault_agrees library Inputs back draft number words whole t = ap (λ place. ports_fault place number words) (place_is back draft t)
 fault_agrees library Outputs back draft number words whole t = ap (λ place. ports_fault place number words) (place_is back draft t)
 fault_agrees library Clock back draft number words whole t = ap (λ place. clock_fault place number words) (place_is back draft t)
@@ -141,6 +141,7 @@ fault_agrees library Latch back draft number words whole t =
     ap (λ nodes. latch_fault (place_of draft) nodes number words) t.nodes ∙ ap (λ place. latch_fault place (nodes_in back) number words) (place_is back draft t)
 fault_agrees library Gate back draft number words whole t =
     ap (λ nodes. gate_fault library (place_of draft) nodes number words) t.nodes ∙ ap (λ place. gate_fault library place (nodes_in back) number words) (place_is back draft t)
+fault_agrees library Subckt back draft number words whole t = ap (λ place. subckt_fault place number words) (place_is back draft t)
 fault_agrees library StartKiss back draft number words whole t =
     ap (λ had. start_fault (place_of draft) had number) t.kiss ∙ ap (λ place. start_fault place (has_kiss back) number) (place_is back draft t)
 fault_agrees library DontCare back draft number words whole t = ap (λ place. place_fault place number) (place_is back draft t)
@@ -275,6 +276,15 @@ tells_kept library Gate line back draft e t f = record {
   nodes = ap (λ n. n + 1) t.nodes ∙ one_node_more Gate line back e refl;
   reading = sym (reading_after Gate line back e refl);
 }
+tells_kept library Subckt line back draft e t f = record {
+  begun = refl;
+  unnamed = λ h. absurd (cc);
+  ended = t.ended ∙ sym (ended_more line back Subckt e);
+  part = t.part ∙ sym (part_more line back Subckt e);
+  kiss = t.kiss ∙ sym (kiss_more line back Subckt e);
+  nodes = t.nodes ∙ same_nodes Subckt line back e refl;
+  reading = sym (reading_after Subckt line back e refl);
+}
 tells_kept library StartKiss line back draft e t f = record {
   begun = refl;
   unnamed = λ h. absurd (cc);
@@ -375,6 +385,7 @@ mixed_after (Some number) timing lines = Some number
 abbrev pub kept_from : Option (List TheGate) → Draft → List Entry → List Entry → List Table → Kept
 kept_from library draft lines own part = record {
   has_kiss = draft.has_kiss || has_kiss lines;
+  has_instances = draft.has_instances || has_instances own;
   name = name_after draft.begun draft.name lines;
   lists_inputs = draft.lists_inputs || lists_inputs own;
   inputs = draft.inputs ++ of_lines listed_inputs own;
@@ -396,6 +407,7 @@ kept_from library draft lines own part = record {
 abbrev pub kept_part : Option (List TheGate) → Draft → List Entry → Kept
 kept_part library draft lines = record {
   has_kiss = draft.has_kiss || has_kiss lines;
+  has_instances = draft.has_instances;
   name = name_after draft.begun draft.name lines;
   lists_inputs = draft.lists_inputs;
   inputs = draft.inputs;
@@ -420,9 +432,10 @@ kept_by library false draft lines = kept_from library draft lines (model_lines l
 abbrev pub finished_by : Option (List TheGate) → Draft → List Entry → Result Content BlifFault
 finished_by library draft lines = read_kept (kept_by library draft.has_part draft lines)
 
-abbrev kept_with : Bool → List ℕ → Bool → List (List ℕ) → Bool → List (List ℕ) → List (List ℕ) → List (List ℕ) → List (List ℕ) → List (List ℕ) → List (List ℕ) → Option Timing → Option ℕ → List TheLatch → List Table → List Table → Kept
-kept_with kiss name li inputs lo outputs ports clocks drives reads inner timing mixed latches tables dont_care = record {
+abbrev kept_with : Bool → Bool → List ℕ → Bool → List (List ℕ) → Bool → List (List ℕ) → List (List ℕ) → List (List ℕ) → List (List ℕ) → List (List ℕ) → List (List ℕ) → Option Timing → Option ℕ → List TheLatch → List Table → List Table → Kept
+kept_with kiss instances name li inputs lo outputs ports clocks drives reads inner timing mixed latches tables dont_care = record {
   has_kiss = kiss;
+  has_instances = instances;
   name = name;
   lists_inputs = li;
   inputs = inputs;
@@ -440,14 +453,14 @@ kept_with kiss name li inputs lo outputs ports clocks drives reads inner timing 
   dont_care = dont_care;
 }
 
-pub kept_same : (k l : Kept) → k.has_kiss ≡ l.has_kiss → k.name ≡ l.name → k.lists_inputs ≡ l.lists_inputs → k.inputs ≡ l.inputs → k.lists_outputs ≡ l.lists_outputs → k.outputs ≡ l.outputs → k.ports ≡ l.ports → k.clocks ≡ l.clocks
+pub kept_same : (k l : Kept) → k.has_kiss ≡ l.has_kiss → k.has_instances ≡ l.has_instances → k.name ≡ l.name → k.lists_inputs ≡ l.lists_inputs → k.inputs ≡ l.inputs → k.lists_outputs ≡ l.lists_outputs → k.outputs ≡ l.outputs → k.ports ≡ l.ports → k.clocks ≡ l.clocks
     → k.drives ≡ l.drives → k.reads ≡ l.reads → k.inner ≡ l.inner → k.timing ≡ l.timing → k.mixed ≡ l.mixed → k.latches ≡ l.latches → k.tables ≡ l.tables → k.dont_care ≡ l.dont_care → k ≡ l
-kept_same k l z a b c d e f g h i j m n o p q = same k.has_kiss k.name k.lists_inputs k.inputs k.lists_outputs k.outputs k.ports k.clocks k.drives k.reads k.inner k.timing k.mixed k.latches k.tables k.dont_care z a b c d e f g h i j m n o p q
+kept_same k l z r a b c d e f g h i j m n o p q = same k.has_kiss k.has_instances k.name k.lists_inputs k.inputs k.lists_outputs k.outputs k.ports k.clocks k.drives k.reads k.inner k.timing k.mixed k.latches k.tables k.dont_care z r a b c d e f g h i j m n o p q
   where
-    same : (kiss : Bool) (name : List ℕ) (li : Bool) (inputs : List (List ℕ)) (lo : Bool) (outputs ports clocks drives reads inner : List (List ℕ)) (timing : Option Timing) (mixed : Option ℕ) (latches : List TheLatch) (tables dont_care : List Table)
-        → kiss ≡ l.has_kiss → name ≡ l.name → li ≡ l.lists_inputs → inputs ≡ l.inputs → lo ≡ l.lists_outputs → outputs ≡ l.outputs → ports ≡ l.ports → clocks ≡ l.clocks → drives ≡ l.drives → reads ≡ l.reads → inner ≡ l.inner → timing ≡ l.timing → mixed ≡ l.mixed → latches ≡ l.latches → tables ≡ l.tables → dont_care ≡ l.dont_care
-        → kept_with kiss name li inputs lo outputs ports clocks drives reads inner timing mixed latches tables dont_care ≡ l
-    same kiss name li inputs lo outputs ports clocks drives reads inner timing mixed latches tables dont_care z a b c d e f g h i j m n o p q = rw (z, a, b, c, d, e, f, g, h, i, j, m, n, o, p, q) refl
+    same : (kiss instances : Bool) (name : List ℕ) (li : Bool) (inputs : List (List ℕ)) (lo : Bool) (outputs ports clocks drives reads inner : List (List ℕ)) (timing : Option Timing) (mixed : Option ℕ) (latches : List TheLatch) (tables dont_care : List Table)
+        → kiss ≡ l.has_kiss → instances ≡ l.has_instances → name ≡ l.name → li ≡ l.lists_inputs → inputs ≡ l.inputs → lo ≡ l.lists_outputs → outputs ≡ l.outputs → ports ≡ l.ports → clocks ≡ l.clocks → drives ≡ l.drives → reads ≡ l.reads → inner ≡ l.inner → timing ≡ l.timing → mixed ≡ l.mixed → latches ≡ l.latches → tables ≡ l.tables → dont_care ≡ l.dont_care
+        → kept_with kiss instances name li inputs lo outputs ports clocks drives reads inner timing mixed latches tables dont_care ≡ l
+    same kiss instances name li inputs lo outputs ports clocks drives reads inner timing mixed latches tables dont_care z r a b c d e f g h i j m n o p q = rw (z, r, a, b, c, d, e, f, g, h, i, j, m, n, o, p, q) refl
 
 -- a field of the draft with what a line appends to it, and the lines that follow
 pub put_more : {A : Type 0} (words_of : Keyword → List (List ℕ) → List A) (before : List A) (kind : Keyword) (line : Entry) (lines : List Entry) → kind_of line ≡ kind → (before ++ words_of kind (other_words line.words)) ++ of_lines words_of lines ≡ before ++ of_lines words_of (line ∷ lines)
@@ -480,6 +493,13 @@ no_inputs_listed before kind line lines e unlike = ap (λ b. before || b) (sym (
 
 pub no_outputs_listed : (before : Bool) (kind : Keyword) (line : Entry) (lines : List Entry) → kind_of line ≡ kind → is_outputs_kind kind ≡ false → (before || lists_outputs lines) ≡ (before || lists_outputs (line ∷ lines))
 no_outputs_listed before kind line lines e unlike = ap (λ b. before || b) (sym (outputs_listed_more line lines kind e ∙ ap (λ b. b || lists_outputs lines) unlike))
+
+pub instances_more : (line : Entry) (lines : List Entry) (kind : Keyword) → kind_of line ≡ kind → has_instances (line ∷ lines) ≡ (is_instance_kind kind || has_instances lines)
+unfolding has_instances
+instances_more line lines kind e = ap (λ k. is_instance_kind k || has_instances lines) e
+
+pub no_instance : (before : Bool) (kind : Keyword) (line : Entry) (lines : List Entry) → kind_of line ≡ kind → is_instance_kind kind ≡ false → (before || has_instances lines) ≡ (before || has_instances (line ∷ lines))
+no_instance before kind line lines e unlike = ap (λ b. before || b) (sym (instances_more line lines kind e ∙ ap (λ b. b || has_instances lines) unlike))
 
 pub no_kiss : (before : Bool) (kind : Keyword) (line : Entry) (lines : List Entry) → kind_of line ≡ kind → begins_kiss kind ≡ false → (before || has_kiss lines) ≡ (before || has_kiss (line ∷ lines))
 no_kiss before kind line lines e unlike = ap (λ b. before || b) (sym (kiss_more line lines kind e ∙ ap (λ b. b || has_kiss lines) unlike))
@@ -601,7 +621,8 @@ unfolding closed
 own_step library Model line lines own part back draft e t f h unlike =
     kept_same _ _
     (no_kiss draft.has_kiss Model line lines e refl)
-    (model_named line lines draft.begun draft.name e (begins (place_of draft) draft.begun line.number (other_words line.words) f))
+    (no_instance draft.has_instances Model line own e refl)
+    (model_named line lines draft.begun draft.name e (begins draft.begun line.number (other_words line.words) f))
     (no_inputs_listed draft.lists_inputs Model line own e refl)
     (put_none listed_inputs draft.inputs Model line own e refl)
     (no_outputs_listed draft.lists_outputs Model line own e refl)
@@ -619,6 +640,7 @@ own_step library Model line lines own part back draft e t f h unlike =
 own_step library Inputs line lines own part back draft e t f h unlike =
     kept_same _ _
     (no_kiss draft.has_kiss Inputs line lines e refl)
+    (no_instance draft.has_instances Inputs line own e refl)
     (name_other line lines (ap (λ k. named_by k (other_words line.words)) e) draft.begun draft.name t.unnamed)
     (now_listed draft.has_part draft.lists_inputs (lists_inputs own) h ∙ ap (λ b. draft.lists_inputs || b) (sym (inputs_listed_more line own Inputs e)))
     (put_grown listed_inputs draft.has_part draft.inputs Inputs line own e h)
@@ -637,6 +659,7 @@ own_step library Inputs line lines own part back draft e t f h unlike =
 own_step library Outputs line lines own part back draft e t f h unlike =
     kept_same _ _
     (no_kiss draft.has_kiss Outputs line lines e refl)
+    (no_instance draft.has_instances Outputs line own e refl)
     (name_other line lines (ap (λ k. named_by k (other_words line.words)) e) draft.begun draft.name t.unnamed)
     (no_inputs_listed draft.lists_inputs Outputs line own e refl)
     (put_none listed_inputs draft.inputs Outputs line own e refl)
@@ -655,6 +678,7 @@ own_step library Outputs line lines own part back draft e t f h unlike =
 own_step library Clock line lines own part back draft e t f h unlike =
     kept_same _ _
     (no_kiss draft.has_kiss Clock line lines e refl)
+    (no_instance draft.has_instances Clock line own e refl)
     (name_other line lines (ap (λ k. named_by k (other_words line.words)) e) draft.begun draft.name t.unnamed)
     (no_inputs_listed draft.lists_inputs Clock line own e refl)
     (put_none listed_inputs draft.inputs Clock line own e refl)
@@ -673,6 +697,7 @@ own_step library Clock line lines own part back draft e t f h unlike =
 own_step library Names line lines own part back draft e t f h unlike =
     kept_same _ _
     (no_kiss draft.has_kiss Names line lines e refl)
+    (no_instance draft.has_instances Names line own e refl)
     (name_other line lines (ap (λ k. named_by k (other_words line.words)) e) draft.begun draft.name t.unnamed)
     (no_inputs_listed draft.lists_inputs Names line own e refl)
     (put_none listed_inputs draft.inputs Names line own e refl)
@@ -691,6 +716,7 @@ own_step library Names line lines own part back draft e t f h unlike =
 own_step library Latch line lines own part back draft e t f h unlike =
     kept_same _ _
     (no_kiss draft.has_kiss Latch line lines e refl)
+    (no_instance draft.has_instances Latch line own e refl)
     (name_other line lines (ap (λ k. named_by k (other_words line.words)) e) draft.begun draft.name t.unnamed)
     (no_inputs_listed draft.lists_inputs Latch line own e refl)
     (put_none listed_inputs draft.inputs Latch line own e refl)
@@ -712,6 +738,7 @@ own_step library Latch line lines own part back draft e t f h unlike =
 own_step library Gate line lines own part back draft e t f h unlike =
     kept_same _ _
     (no_kiss draft.has_kiss Gate line lines e refl)
+    (no_instance draft.has_instances Gate line own e refl)
     (name_other line lines (ap (λ k. named_by k (other_words line.words)) e) draft.begun draft.name t.unnamed)
     (no_inputs_listed draft.lists_inputs Gate line own e refl)
     (put_none listed_inputs draft.inputs Gate line own e refl)
@@ -727,9 +754,29 @@ own_step library Gate line lines own part back draft e t f h unlike =
     (put_none latches_by draft.latches Gate line own e refl)
     (closed_gate library draft.tables draft.reading line own e)
     refl
+own_step library Subckt line lines own part back draft e t f h unlike =
+    kept_same _ _
+    (no_kiss draft.has_kiss Subckt line lines e refl)
+    (sym (ap (λ b. draft.has_instances || b) (instances_more line own Subckt e) ∙ either draft.has_instances true refl))
+    (name_other line lines (ap (λ k. named_by k (other_words line.words)) e) draft.begun draft.name t.unnamed)
+    (no_inputs_listed draft.lists_inputs Subckt line own e refl)
+    (put_none listed_inputs draft.inputs Subckt line own e refl)
+    (no_outputs_listed draft.lists_outputs Subckt line own e refl)
+    (put_none listed_outputs draft.outputs Subckt line own e refl)
+    (put_none listed_ports draft.ports Subckt line own e refl)
+    (put_none listed_clocks draft.clocks Subckt line own e refl)
+    (put_none (driven_by library) draft.drives Subckt line own e refl)
+    (put_none (read_by library) draft.reads Subckt line own e refl)
+    (inner_other library draft.lists_inputs draft.inner Subckt line own e refl)
+    (ap (timing_after draft.latches draft.timing) (latches_other Subckt line own e refl))
+    (ap (λ ls. mixed_after draft.mixed (timing_after draft.latches draft.timing ls) ls) (latches_other Subckt line own e refl))
+    (put_none latches_by draft.latches Subckt line own e refl)
+    (closed_other library draft.tables draft.reading Subckt line own e refl refl)
+    refl
 own_step library StartKiss line lines own part back draft e t f h unlike =
     kept_same _ _
     (sym (ap (λ b. draft.has_kiss || b) (kiss_more line lines StartKiss e) ∙ either draft.has_kiss true refl))
+    (no_instance draft.has_instances StartKiss line own e refl)
     (name_other line lines (ap (λ k. named_by k (other_words line.words)) e) draft.begun draft.name t.unnamed)
     (no_inputs_listed draft.lists_inputs StartKiss line own e refl)
     (put_none listed_inputs draft.inputs StartKiss line own e refl)
@@ -749,6 +796,7 @@ own_step library DontCare line lines own part back draft e t f h unlike = absurd
 own_step library End line lines own part back draft e t f h unlike =
     kept_same _ _
     (no_kiss draft.has_kiss End line lines e refl)
+    (no_instance draft.has_instances End line own e refl)
     (name_other line lines (ap (λ k. named_by k (other_words line.words)) e) draft.begun draft.name t.unnamed)
     (no_inputs_listed draft.lists_inputs End line own e refl)
     (put_none listed_inputs draft.inputs End line own e refl)
@@ -767,6 +815,7 @@ own_step library End line lines own part back draft e t f h unlike =
 own_step library Skipped line lines own part back draft e t f h unlike =
     kept_same _ _
     (no_kiss draft.has_kiss Skipped line lines e refl)
+    (no_instance draft.has_instances Skipped line own e refl)
     (name_other line lines (ap (λ k. named_by k (other_words line.words)) e) draft.begun draft.name t.unnamed)
     (no_inputs_listed draft.lists_inputs Skipped line own e refl)
     (put_none listed_inputs draft.inputs Skipped line own e refl)
@@ -785,6 +834,7 @@ own_step library Skipped line lines own part back draft e t f h unlike =
 own_step library Row line lines own part back draft e t f h unlike =
     kept_same _ _
     (no_kiss draft.has_kiss Row line lines e refl)
+    (no_instance draft.has_instances Row line own e refl)
     (name_other line lines (ap (λ k. named_by k (other_words line.words)) e) draft.begun draft.name t.unnamed)
     (no_inputs_listed draft.lists_inputs Row line own e refl)
     (put_none listed_inputs draft.inputs Row line own e refl)
@@ -806,10 +856,11 @@ own_step library Other line lines own part back draft e t f h unlike = absurd (c
 pub part_step : (library : Option (List TheGate)) (kind : Keyword) (line : Entry) (lines back : List Entry) (draft : Draft) → kind_of line ≡ kind → Tells back draft → draft_fault library kind draft line.number (other_words line.words) line.words ≡ None → draft.has_part ≡ true
     → kept_part library (with_line library kind draft line.number (other_words line.words) line.words) lines ≡ kept_part library draft (line ∷ lines)
 unfolding closed
-part_step library Model line lines back draft e t f h = absurd (unbegun back draft.has_part h t.part (begins (place_of draft) draft.begun line.number (other_words line.words) f) t.begun)
+part_step library Model line lines back draft e t f h = absurd (unbegun back draft.has_part h t.part (begins draft.begun line.number (other_words line.words) f) t.begun)
 part_step library Inputs line lines back draft e t f h =
     kept_same _ _
     (no_kiss draft.has_kiss Inputs line lines e refl)
+    refl
     (name_other line lines (ap (λ k. named_by k (other_words line.words)) e) draft.begun draft.name t.unnamed)
     (still_listed draft.has_part draft.lists_inputs h)
     (not_grown draft.has_part draft.inputs (other_words line.words) h)
@@ -820,6 +871,7 @@ part_step library Inputs line lines back draft e t f h =
 part_step library Outputs line lines back draft e t f h =
     kept_same _ _
     (no_kiss draft.has_kiss Outputs line lines e refl)
+    refl
     (name_other line lines (ap (λ k. named_by k (other_words line.words)) e) draft.begun draft.name t.unnamed)
     refl refl
     (still_listed draft.has_part draft.lists_outputs h)
@@ -833,6 +885,7 @@ part_step library Clock line lines back draft e t f h = absurd (own_clock draft.
 part_step library Names line lines back draft e t f h =
     kept_same _ _
     (no_kiss draft.has_kiss Names line lines e refl)
+    refl
     (name_other line lines (ap (λ k. named_by k (other_words line.words)) e) draft.begun draft.name t.unnamed)
     refl refl refl refl refl refl
     (not_grown draft.has_part draft.drives (last_word (other_words line.words) ∷ []) h)
@@ -842,11 +895,13 @@ part_step library Names line lines back draft e t f h =
     (closed_table library draft.tables draft.reading line lines e)
 part_step library Latch line lines back draft e t f h = absurd (own_latch draft.ended draft.has_part draft.nodes line.number (other_words line.words) h f)
 part_step library Gate line lines back draft e t f h = absurd (own_gate library draft.ended draft.has_part draft.nodes line.number (other_words line.words) h f)
+part_step library Subckt line lines back draft e t f h = absurd (own_subckt draft.ended draft.has_part line.number (other_words line.words) h f)
 part_step library StartKiss line lines back draft e t f h = absurd (own_start draft.ended draft.has_part draft.has_kiss line.number h f)
 part_step library DontCare line lines back draft e t f h = absurd (own_place draft.ended draft.has_part line.number h f)
 part_step library End line lines back draft e t f h =
     kept_same _ _
     (no_kiss draft.has_kiss End line lines e refl)
+    refl
     (name_other line lines (ap (λ k. named_by k (other_words line.words)) e) draft.begun draft.name t.unnamed)
     refl refl refl refl refl refl refl refl refl refl refl refl refl
     (closed_other library draft.tables draft.reading End line lines e refl refl)
@@ -854,6 +909,7 @@ part_step library Skipped line lines back draft e t f h = absurd (own_place draf
 part_step library Row line lines back draft e t f h =
     kept_same _ _
     (no_kiss draft.has_kiss Row line lines e refl)
+    refl
     (name_other line lines (ap (λ k. named_by k (other_words line.words)) e) draft.begun draft.name t.unnamed)
     refl refl refl refl refl refl refl refl refl refl refl refl refl
     (ap (λ rest. draft.tables ++ rest) (row_tables library draft.reading line lines e))
@@ -906,10 +962,11 @@ tables_end library tables (Some reading) = refl
 
 -- the model ends
 pub own_end : (library : Option (List TheGate)) (line : Entry) (lines back : List Entry) (draft : Draft) → kind_of line ≡ DontCare → Tells back draft → kept_part library (with_line library DontCare draft line.number (other_words line.words) line.words) lines ≡ kept_from library draft (line ∷ lines) [] (tables_in library (line ∷ lines))
-unfolding closed lists_inputs lists_outputs
+unfolding closed lists_inputs lists_outputs has_instances
 own_end library line lines back draft e t =
     kept_same _ _
     (no_kiss draft.has_kiss DontCare line lines e refl)
+    (or_nothing draft.has_instances)
     (name_other line lines (ap (λ k. named_by k (other_words line.words)) e) draft.begun draft.name t.unnamed)
     (or_nothing draft.lists_inputs)
     (sym (append-nil draft.inputs))
@@ -949,6 +1006,7 @@ same_part library Clock draft number words whole = refl
 same_part library Names draft number words whole = refl
 same_part library Latch draft number words whole = refl
 same_part library Gate draft number words whole = refl
+same_part library Subckt draft number words whole = refl
 same_part library StartKiss draft number words whole = refl
 same_part library DontCare draft number words whole = refl
 same_part library End draft number words whole = refl
@@ -956,8 +1014,10 @@ same_part library Skipped draft number words whole = refl
 same_part library Row draft number words whole = refl
 same_part library Other draft number words whole = refl
 
-pub finish_kept : (library : Option (List TheGate)) (kind : Keyword) (line : Entry) (lines back : List Entry) (draft : Draft) → kind_of line ≡ kind → Tells back draft → draft_fault library kind draft line.number (other_words line.words) line.words ≡ None → finished_by library (with_line library kind draft line.number (other_words line.words) line.words) lines ≡ finished_by library draft (line ∷ lines)
-finish_kept library kind line lines back draft e t f = ap read_kept (by draft.has_part (begins_part kind) refl refl)
+-- what is kept in the end is the same, seen from before a line and from after it
+pub kept_on : (library : Option (List TheGate)) (kind : Keyword) (line : Entry) (lines back : List Entry) (draft : Draft) → kind_of line ≡ kind → Tells back draft → draft_fault library kind draft line.number (other_words line.words) line.words ≡ None
+    → kept_by library (with_line library kind draft line.number (other_words line.words) line.words).has_part (with_line library kind draft line.number (other_words line.words) line.words) lines ≡ kept_by library draft.has_part draft (line ∷ lines)
+kept_on library kind line lines back draft e t f = by draft.has_part (begins_part kind) refl refl
   where
     next : Draft
     next = with_line library kind draft line.number (other_words line.words) line.words
@@ -981,6 +1041,7 @@ finish_kept library kind line lines back draft e t f = ap read_kept (by draft.ha
         begun Names e is = absurd (cc)
         begun Latch e is = absurd (cc)
         begun Gate e is = absurd (cc)
+        begun Subckt e is = absurd (cc)
         begun StartKiss e is = absurd (cc)
         begun End e is = absurd (cc)
         begun Skipped e is = absurd (cc)
@@ -991,15 +1052,19 @@ finish_kept library kind line lines back draft e t f = ap read_kept (by draft.ha
         ∙ own_kept library kind line lines back draft e t f h unlike
         ∙ sym (ap (λ b. kept_by library b draft (line ∷ lines)) h)
 
+pub finish_kept : (library : Option (List TheGate)) (kind : Keyword) (line : Entry) (lines back : List Entry) (draft : Draft) → kind_of line ≡ kind → Tells back draft → draft_fault library kind draft line.number (other_words line.words) line.words ≡ None → finished_by library (with_line library kind draft line.number (other_words line.words) line.words) lines ≡ finished_by library draft (line ∷ lines)
+finish_kept library kind line lines back draft e t f = ap read_kept (kept_on library kind line lines back draft e t f)
+
 pub kept_end : (library : Option (List TheGate)) (back : List Entry) (draft : Draft) → Tells back draft → (had : Bool) → draft.has_part ≡ had → kept_of draft ≡ kept_by library had draft []
-unfolding has_kiss lists_inputs lists_outputs model_lines part_lines tables_in
+unfolding has_kiss has_instances lists_inputs lists_outputs model_lines part_lines tables_in
 kept_end library back draft t true h =
-    kept_same _ _ (or_nothing draft.has_kiss) (named_end draft.begun draft.name t.unnamed) refl refl refl refl refl refl refl refl refl refl refl refl
+    kept_same _ _ (or_nothing draft.has_kiss) refl (named_end draft.begun draft.name t.unnamed) refl refl refl refl refl refl refl refl refl refl refl refl
     (ap (λ b. model_of b draft.model_tables (tables_with draft.tables draft.reading)) h)
     (ap (λ b. part_of b (tables_with draft.tables draft.reading)) h ∙ tables_end library draft.tables draft.reading)
 kept_end library back draft t false h =
     kept_same _ _
     (or_nothing draft.has_kiss)
+    (or_nothing draft.has_instances)
     (named_end draft.begun draft.name t.unnamed)
     (or_nothing draft.lists_inputs)
     (sym (append-nil draft.inputs))
@@ -1088,6 +1153,7 @@ inner_all library (line ∷ lines) e =
     by Names unlike rest = ap (λ names. read_within library Names (other_words line.words) ++ names) rest
     by Latch unlike rest = ap (λ names. read_within library Latch (other_words line.words) ++ names) rest
     by Gate unlike rest = ap (λ names. read_within library Gate (other_words line.words) ++ names) rest
+    by Subckt unlike rest = ap (λ names. read_within library Subckt (other_words line.words) ++ names) rest
     by StartKiss unlike rest = ap (λ names. read_within library StartKiss (other_words line.words) ++ names) rest
     by DontCare unlike rest = ap (λ names. read_within library DontCare (other_words line.words) ++ names) rest
     by End unlike rest = ap (λ names. read_within library End (other_words line.words) ++ names) rest
@@ -1109,6 +1175,7 @@ reads_all library (line ∷ lines) e =
     by Names unlike rest = ap (λ names. read_within library Names (other_words line.words) ++ names) rest
     by Latch unlike rest = ap (λ names. read_within library Latch (other_words line.words) ++ names) rest
     by Gate unlike rest = ap (λ names. read_within library Gate (other_words line.words) ++ names) rest
+    by Subckt unlike rest = ap (λ names. read_within library Subckt (other_words line.words) ++ names) rest
     by StartKiss unlike rest = ap (λ names. read_within library StartKiss (other_words line.words) ++ names) rest
     by DontCare unlike rest = ap (λ names. read_within library DontCare (other_words line.words) ++ names) rest
     by End unlike rest = ap (λ names. read_within library End (other_words line.words) ++ names) rest
@@ -1182,6 +1249,7 @@ undriven_is library (line ∷ lines) back e =
     by Latch is f rec = goes_on Latch is refl (latch_drives (other_words line.words) (drives_in library (model_lines lines)) (right_latch (part_behind back) (nodes_in back) line.number (other_words line.words) f))
     by Gate is f rec = goes_on Gate is refl (one_gate library line.number (other_words line.words) (λ tables. is_none (outputs_of tables ++ drives_in library (model_lines lines)) ≡ false)
         (right_gate library (part_behind back) (nodes_in back) line.number (other_words line.words) f).cell (λ gates table g r. refl))
+    by Subckt is f rec = goes_on Subckt is refl rec
     by StartKiss is f rec = goes_on StartKiss is refl rec
     by DontCare is f rec = rw (own_ends line lines (ap begins_part is)) refl
     by End is f rec = goes_on End is refl rec
@@ -1204,8 +1272,8 @@ head_kept library lines = refl
 pub whole_kept : (library : Option (List TheGate)) (lines : List Entry) → first_line_fault library [] lines ≡ None → finished_by library no_lines lines ≡ read_whole library (is_machine lines) lines
 unfolding read_kept is_machine drives_in
 whole_kept library lines e =
-    ap (λ b. read_kept_as (has_kiss lines && b) (kept_by library false no_lines lines)) (undriven_is library lines [] e)
-    ∙ by (has_kiss lines && not (has_nodes (model_lines lines)))
+    ap (λ b. read_kept_as (has_kiss lines && b && not (has_instances (model_lines lines))) (kept_by library false no_lines lines)) (undriven_is library lines [] e)
+    ∙ by (has_kiss lines && not (has_nodes (model_lines lines)) && not (has_instances (model_lines lines)))
   where
     by : (machine : Bool) → read_kept_as machine (kept_by library false no_lines lines) ≡ read_whole library machine lines
     by true = head_kept library lines

@@ -7,11 +7,11 @@ use Rattle.sis_text.specs.Entries.{Entry}
 use Rattle.line_words.specs.LineWords.{other_words}
 use Rattle.genlib_format.specs.declared.gate.Gate.{Gate}
 use Rattle.blif_gates.specs.GateLines.{signals_of}
-use Rattle.blif_lines.specs.Lines.{when, first_of, is_none, long_fault, one_too_many, has_part, is_in_model, is_in_dont_care, is_latch, latch_names, model_fault, clock_fault, latch_fault, library_fault, gate_fault, start_fault, place_fault}
+use Rattle.blif_lines.specs.Lines.{when, first_of, is_none, long_fault, one_too_many, has_part, is_in_model, is_latch, latch_names, subckt_names, model_fault, clock_fault, latch_fault, library_fault, gate_fault, subckt_fault, start_fault, place_fault}
 use Rattle.blif_lines.specs.Steps.{place_at}
 use Rattle.blif_lines.specs.declared.part.Part.{Part}
 use Rattle.blif_lines.specs.declared.fault.BlifFault.{BlifFault}
-use Rattle.blif_lines.specs.declared.fault.BlifFault.TheVariants.{UnknownWord, BadArity, BadLatch, SecondModel}
+use Rattle.blif_lines.specs.declared.fault.BlifFault.TheVariants.{UnknownWord, BadArity, BadLatch}
 
 -- no cause holds where the first of some is none
 pub none_first : (cause : Option BlifFault) (causes : List (Option BlifFault)) → first_of (cause ∷ causes) ≡ None → cause ≡ None
@@ -38,13 +38,11 @@ not_not_when true fault e = refl
 not_not_when false fault e = absurd (cc)
 
 -- a `.model` line is the first one
-pub begins : (place : Part) (begun : Bool) (number : ℕ) (words : List (List ℕ)) → model_fault place begun number words ≡ None → begun ≡ false
+pub begins : (begun : Bool) (number : ℕ) (words : List (List ℕ)) → model_fault begun number words ≡ None → begun ≡ false
 unfolding model_fault
-begins place begun number words f =
-    not_when begun (SecondModel number)
-    (none_first (when begun (SecondModel number)) (long_fault words ∷ [])
-    (none_later (when (nat_lt 1 (length words)) (BadArity number)) (when begun (SecondModel number) ∷ long_fault words ∷ [])
-    (none_later (when (is_in_dont_care place) (UnknownWord number)) (when (nat_lt 1 (length words)) (BadArity number) ∷ when begun (SecondModel number) ∷ long_fault words ∷ []) f)))
+begins begun number words f =
+    not_when begun (UnknownWord number)
+    (none_first (when begun (UnknownWord number)) (when (nat_lt 1 (length words)) (BadArity number) ∷ long_fault words ∷ []) f)
 
 -- what may be wrong with a line of a gate in the model
 abbrev pub gate_causes : Option (List Gate) → ℕ → ℕ → List (List ℕ) → List (Option BlifFault)
@@ -79,6 +77,11 @@ pub own_gate : (library : Option (List Gate)) (ended had : Bool) (nodes number :
 unfolding gate_fault
 own_gate library ended had nodes number words h f =
     true_false (is_in_model (place_at ended had)) (in_model (place_at ended had) number (gate_causes library nodes number words) f) (not_model ended had h)
+
+pub own_subckt : (ended had : Bool) (number : ℕ) (words : List (List ℕ)) → had ≡ true → subckt_fault (place_at ended had) number words ≡ None → ⊥
+unfolding subckt_fault
+own_subckt ended had number words h f =
+    true_false (is_in_model (place_at ended had)) (in_model (place_at ended had) number (when (is_none words) (BadArity number) ∷ long_fault (subckt_names words) ∷ []) f) (not_model ended had h)
 
 pub own_start : (ended had kiss : Bool) (number : ℕ) → had ≡ true → start_fault (place_at ended had) kiss number ≡ None → ⊥
 unfolding start_fault

@@ -1,9 +1,11 @@
 pub mod Words
 pub mod Beside
 pub mod Faults
+pub mod PairNames
 pub mod Gates
 pub mod Agreement
 pub mod Walk
+pub mod AfterLines
 pub mod NameLists
 pub mod Passing
 pub mod ProperWords

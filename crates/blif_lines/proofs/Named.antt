@@ -19,14 +19,14 @@ use Rattle.line_words.specs.LineWords.{other_words, long_name}
 use Rattle.genlib_format.specs.declared.gate.Gate.{Gate as TheGate}
 use Rattle.blif_gates.specs.GateLines.{signals_of}
 use Rattle.blif_lines.specs.Heads.{listed_ports_of}
-use Rattle.blif_lines.specs.Lines.{when, input_words, last_word, long_fault, one_too_many, many_inputs, is_in_model, is_in_dont_care, is_behind, is_latch, latch_names, is_none, model_fault, ports_fault, clock_fault, names_fault, latch_fault, joined}
+use Rattle.blif_lines.specs.Lines.{when, input_words, last_word, long_fault, one_too_many, many_inputs, is_in_model, is_behind, is_latch, latch_names, is_none, model_fault, ports_fault, clock_fault, names_fault, latch_fault, joined}
 use Rattle.blif_lines.specs.Reader.{named_by, table_of, latch_of, latch_input, latch_output, timing_of, names_beside, gate_tables, gate_inputs, listed_where}
 use Rattle.blif_lines.specs.Steps.{with_row, row_behind, tables_with, closed, place_at, place_of, draft_fault, with_more, timing_with, with_line, no_lines, model_of, part_of, listed_or, Kept, kept_of, kept_inputs, kept_outputs, kept_circuit, kept_head}
 use Rattle.blif_lines.specs.declared.keyword.Keyword.{Keyword}
-use Rattle.blif_lines.specs.declared.keyword.Keyword.TheVariants.{Model, Inputs, Outputs, Clock, Names, Latch, Gate, StartKiss, DontCare, End, Skipped, Row, Other}
+use Rattle.blif_lines.specs.declared.keyword.Keyword.TheVariants.{Model, Inputs, Outputs, Clock, Names, Latch, Gate, Subckt, StartKiss, DontCare, End, Skipped, Row, Other}
 use Rattle.blif_lines.specs.declared.part.Part.{Part}
 use Rattle.blif_lines.specs.declared.fault.LimitKind.TheVariants as limit
-use Rattle.blif_lines.specs.declared.fault.BlifFault.TheVariants.{UnknownWord, BadArity, BadLatch, SecondModel, Limit}
+use Rattle.blif_lines.specs.declared.fault.BlifFault.TheVariants.{UnknownWord, BadArity, BadLatch, Limit}
 use Rattle.blif_lines.specs.declared.draft.Reading.{Reading}
 use Rattle.blif_lines.specs.declared.draft.Draft.{Draft}
 use Rattle.blif_lines.proofs.NameLists.{all_append, all_front, all_back, all_kept, all_taken, all_among, all_of_has, none_found}
@@ -233,6 +233,18 @@ named_kept library P Gate draft number words whole top a f n = record {
   tables = subst (AllByRecursion P) (sym (flat_map-append (λ (table : Table). table.output ∷ table.inputs) (tables_with draft.tables draft.reading) (gate_tables library words)))
       (all_append P (names_of (tables_with draft.tables draft.reading)) (names_of (gate_tables library words)) n.tables a);
 }
+named_kept library P Subckt draft number words whole top a f n = record {
+  name = n.name;
+  inputs = n.inputs;
+  outputs = n.outputs;
+  clocks = n.clocks;
+  drives = n.drives;
+  inner = n.inner;
+  timing = n.timing;
+  latches = n.latches;
+  model = n.model;
+  tables = n.tables;
+}
 named_kept library P StartKiss draft number words whole top a f n = record {
   name = n.name;
   inputs = n.inputs;
@@ -397,9 +409,8 @@ pub short_mentioned : (library : Option (List TheGate)) (kind : Keyword) (draft 
 unfolding model_fault clock_fault names_fault latch_fault
 short_mentioned library Model draft number words whole f =
     none_long words (none_first (long_fault words) []
-    (none_later (when draft.begun (SecondModel number)) (long_fault words ∷ [])
-    (none_later (when (nat_lt 1 (length words)) (BadArity number)) (when draft.begun (SecondModel number) ∷ long_fault words ∷ [])
-    (none_later (when (is_in_dont_care (place_of draft)) (UnknownWord number)) (when (nat_lt 1 (length words)) (BadArity number) ∷ when draft.begun (SecondModel number) ∷ long_fault words ∷ []) f))))
+    (none_later (when (nat_lt 1 (length words)) (BadArity number)) (long_fault words ∷ [])
+    (none_later (when draft.begun (UnknownWord number)) (when (nat_lt 1 (length words)) (BadArity number) ∷ long_fault words ∷ []) f)))
 short_mentioned library Inputs draft number words whole f = (short_ports library draft.ended draft.has_part number words f).0
 short_mentioned library Outputs draft number words whole f = (short_ports library draft.ended draft.has_part number words f).1
 short_mentioned library Clock draft number words whole f =
@@ -416,6 +427,7 @@ short_mentioned library Gate draft number words whole f =
     all_kept (λ name. has (signals_of (other_words words)) name ≡ true) IsShort (names_of (gate_tables library words))
     (λ name h. all_among IsShort (signals_of (other_words words)) name (none_long (signals_of (other_words words)) (right_gate library (place_of draft) draft.nodes number words f).short) h)
     (gate_names_are_signals library words)
+short_mentioned library Subckt draft number words whole f = tt
 short_mentioned library StartKiss draft number words whole f = tt
 short_mentioned library DontCare draft number words whole f = tt
 short_mentioned library End draft number words whole f = tt
@@ -444,6 +456,7 @@ words_mentioned library had Clock words a = a
 words_mentioned library had Names words a = a
 words_mentioned library had Latch words a = latch_words_have IsWord words a
 words_mentioned library had Gate words a = gate_names_are_words library words a
+words_mentioned library had Subckt words a = tt
 words_mentioned library had StartKiss words a = tt
 words_mentioned library had DontCare words a = tt
 words_mentioned library had End words a = tt

@@ -20,7 +20,7 @@ use Rattle.blif_lines.specs.Libraries.{IsSoundLibrary}
 use Rattle.blif_lines.specs.Reader.{row_of, table_of, latch_of, init_of, gate_tables}
 use Rattle.blif_lines.specs.Steps.{width_of, mark_with, reading_fault, fault_behind, next_fault, with_row, row_behind, tables_with, closed, place_of, draft_fault, with_line, no_lines, model_of, part_of, kept_of, kept_circuit}
 use Rattle.blif_lines.specs.declared.keyword.Keyword.{Keyword}
-use Rattle.blif_lines.specs.declared.keyword.Keyword.TheVariants.{Model, Inputs, Outputs, Clock, Names, Latch, Gate, StartKiss, DontCare, End, Skipped, Row, Other}
+use Rattle.blif_lines.specs.declared.keyword.Keyword.TheVariants.{Model, Inputs, Outputs, Clock, Names, Latch, Gate, Subckt, StartKiss, DontCare, End, Skipped, Row, Other}
 use Rattle.blif_lines.specs.declared.part.Part.{Part}
 use Rattle.blif_lines.specs.declared.fault.LimitKind.TheVariants as limit
 use Rattle.blif_lines.specs.declared.fault.BlifFault.{BlifFault}
@@ -243,6 +243,7 @@ small_kept library P k Gate draft number words whole f s =
       few = omega arith;
       inits = s.inits;
     }
+small_kept library P k Subckt draft number words whole f s = record { tables = s.tables; model = s.model; none = s.none; count = s.count; few = s.few; inits = s.inits }
 small_kept library P k StartKiss draft number words whole f s = record { tables = s.tables; model = s.model; none = s.none; count = s.count; few = s.few; inits = s.inits }
 small_kept library P k DontCare draft number words whole f s =
     let all : length (tables_with draft.tables draft.reading) + (length draft.model_tables + length draft.latches) ≡ draft.nodes = s.count in

@@ -24,7 +24,7 @@ use Rattle.blif_lines.specs.Lines.{first_of, is_latch, joined}
 use Rattle.blif_lines.specs.Reader.{table_of, latch_of, latch_input, latch_output, timing_of, names_beside, gate_tables, gate_inputs, listed_where}
 use Rattle.blif_lines.specs.Steps.{with_row, row_behind, tables_with, closed, place_of, draft_fault, with_more, timing_with, with_line, no_lines, model_of, listed_or, Kept, kept_of, kept_inputs, kept_outputs, kept_leaves, timing_fault, drivers_fault, tables_fault, listed_fault, kept_fault, kept_circuit, kept_head_fault, kept_head, HasApartTables}
 use Rattle.blif_lines.specs.declared.keyword.Keyword.{Keyword}
-use Rattle.blif_lines.specs.declared.keyword.Keyword.TheVariants.{Model, Inputs, Outputs, Clock, Names, Latch, Gate, StartKiss, DontCare, End, Skipped, Row, Other}
+use Rattle.blif_lines.specs.declared.keyword.Keyword.TheVariants.{Model, Inputs, Outputs, Clock, Names, Latch, Gate, Subckt, StartKiss, DontCare, End, Skipped, Row, Other}
 use Rattle.blif_lines.specs.declared.fault.BlifFault.{BlifFault}
 use Rattle.blif_lines.specs.declared.fault.BlifFault.TheVariants.{NameTwice, MixedClock, GatedClock, TwoDrivers, Undriven, BadExdc, Cycle}
 use Rattle.blif_lines.specs.declared.draft.Reading.{Reading}
@@ -221,6 +221,7 @@ unfolding closed tables_with table_of
 told_kept library Model draft number words whole f t = record { ports = t.ports; drives = t.drives; reads = t.reads; untimed = t.untimed; not_nil = t.not_nil }
 told_kept library Clock draft number words whole f t = record { ports = t.ports; drives = t.drives; reads = t.reads; untimed = t.untimed; not_nil = t.not_nil }
 told_kept library End draft number words whole f t = record { ports = t.ports; drives = t.drives; reads = t.reads; untimed = t.untimed; not_nil = t.not_nil }
+told_kept library Subckt draft number words whole f t = record { ports = t.ports; drives = t.drives; reads = t.reads; untimed = t.untimed; not_nil = t.not_nil }
 told_kept library StartKiss draft number words whole f t = record { ports = t.ports; drives = t.drives; reads = t.reads; untimed = t.untimed; not_nil = t.not_nil }
 told_kept library Skipped draft number words whole f t = record { ports = t.ports; drives = t.drives; reads = t.reads; untimed = t.untimed; not_nil = t.not_nil }
 told_kept library Inputs draft number words whole f t = record {

@@ -6,7 +6,7 @@ use Rattle.sis_text.specs.Words.{begins_with}
 use Rattle.sis_text.specs.Entries.{Entry}
 use Rattle.line_words.specs.LineWords.{first_word}
 use Rattle.blif_lines.specs.declared.keyword.Keyword.{Keyword}
-use Rattle.blif_lines.specs.declared.keyword.Keyword.TheVariants.{Model, Inputs, Outputs, Clock, Names, Latch, Gate, StartKiss, DontCare, End, Skipped, Row, Other}
+use Rattle.blif_lines.specs.declared.keyword.Keyword.TheVariants.{Model, Inputs, Outputs, Clock, Names, Latch, Gate, Subckt, StartKiss, DontCare, End, Skipped, Row, Other}
 
 -- the words whose lines are skipped: they describe areas, delays, loads and events, none of which
 -- is kept
@@ -28,11 +28,12 @@ keyword_of word =
     else (if bytes_eq word (codes ".names") then Names
     else (if bytes_eq word (codes ".latch") then Latch
     else (if bytes_eq word (codes ".gate") then Gate
+    else (if bytes_eq word (codes ".subckt") then Subckt
     else (if bytes_eq word (codes ".start_kiss") then StartKiss
     else (if bytes_eq word (codes ".exdc") then DontCare
     else (if bytes_eq word (codes ".end") then End
     else (if has skipped_words word then Skipped
-    else (if begins_with 46 word then Other else Row)))))))))))
+    else (if begins_with 46 word then Other else Row))))))))))))
 
 -- the kind of a line
 unfoldable pub kind_of : Entry → Keyword

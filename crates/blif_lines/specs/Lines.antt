@@ -1,8 +1,9 @@
 -- What is wrong with one logical line of a model, given the lines before it. Source: BLIF appendix
 -- of the SIS report (UCB/ERL M92/41): `.model`, `.inputs`, `.outputs`, `.clock`, `.names` with its
--- rows, `.latch`, `.gate`, `.start_kiss`, `.exdc` followed by the don't-care part, and `.end`. The
--- order of the causes and the limits are the project's own. The lines of a KISS2 part are not among
--- these lines, except the one that begins it. The lines before a line are given newest first.
+-- rows, `.latch`, `.gate`, `.subckt`, `.start_kiss`, `.exdc` followed by the don't-care part, and
+-- `.end`. The order of the causes and the limits are the project's own. The lines of a KISS2 part
+-- are not among these lines, except the one that begins it; nor are those of another model. The
+-- lines before a line are given newest first.
 use Rattle.std.specs.Prelude.{ℕ, ◌+◌, ◌-◌, Bool, true, false, not, ◌&&◌, ◌||◌, ◌==◌, nat_le, nat_lt, Option, Some, None, Result, Ok, Err, List, [], ◌∷◌, map, reverse, length, take, drop, find, flat_map, take_while, count_by, codes, bytes_eq, slice_index, if◌then◌else◌}
 use Rattle.std.specs.List.{list_all, list_any}
 use Rattle.std.specs.Option.{option_map}
@@ -12,15 +13,15 @@ use Rattle.circuit_model.specs.declared.circuit.Table.{Table}
 use Rattle.genlib_format.specs.declared.gate.Gate.{Gate as TheGate}
 use Rattle.blif_gates.specs.declared.reading.GateFault.{GateFault}
 use Rattle.blif_gates.specs.declared.reading.GateFault.TheVariants as gate
-use Rattle.blif_gates.specs.GateLines.{signals_of, read_gate}
+use Rattle.blif_gates.specs.GateLines.{pin_in, signal_in, is_pair, signals_of, read_gate}
 use Rattle.blif_lines.specs.Keyword.{kind_of, is_row}
 use Rattle.blif_lines.specs.declared.keyword.Keyword.{Keyword}
-use Rattle.blif_lines.specs.declared.keyword.Keyword.TheVariants.{Model, Inputs, Outputs, Clock, Names, Latch, Gate, StartKiss, DontCare, End, Skipped, Row, Other}
+use Rattle.blif_lines.specs.declared.keyword.Keyword.TheVariants.{Model, Inputs, Outputs, Clock, Names, Latch, Gate, Subckt, StartKiss, DontCare, End, Skipped, Row, Other}
 use Rattle.blif_lines.specs.declared.part.Part.{Part}
 use Rattle.blif_lines.specs.declared.part.Part.TheVariants as part
 use Rattle.blif_lines.specs.declared.fault.LimitKind.TheVariants as limit
 use Rattle.blif_lines.specs.declared.fault.BlifFault.{BlifFault}
-use Rattle.blif_lines.specs.declared.fault.BlifFault.TheVariants.{UnknownWord, BadArity, BadRow, MixedPhase, BadLatch, SecondModel, NoLibrary, UnknownGate, BadPins, Limit}
+use Rattle.blif_lines.specs.declared.fault.BlifFault.TheVariants.{UnknownWord, BadArity, BadRow, MixedPhase, BadLatch, NoLibrary, UnknownGate, BadPins, Limit}
 use Rattle.sis_base.specs.declared.limits.TheConstants.{MAX_INPUTS, MAX_NODES, MAX_ROWS}
 
 -- a fault if a test holds
@@ -84,11 +85,6 @@ has_kiss lines = list_any (λ line. begins_kiss (kind_of line)) lines
 abbrev pub is_in_model : Part → Bool
 is_in_model part.Model = true
 is_in_model place = false
-
--- whether a part is the don't-care part
-abbrev pub is_in_dont_care : Part → Bool
-is_in_dont_care part.DontCare = true
-is_in_dont_care place = false
 
 -- whether a part is after the end
 abbrev pub is_behind : Part → Bool
@@ -196,11 +192,10 @@ row_fault None rows number bytes = Some (BadRow number)
 row_fault (Some line) rows number bytes = row_fault_under (kind_of line) (other_words line.words) rows number bytes
 
 -- what is wrong with the words after the first of a `.model` line; `begun` says whether a line
--- precedes it
-unfoldable pub model_fault : Part → Bool → ℕ → List (List ℕ) → Option BlifFault
-model_fault place begun number words = first_of
-    (when (is_in_dont_care place) (UnknownWord number) ∷ when (nat_lt 1 (length words)) (BadArity number)
-    ∷ when begun (SecondModel number) ∷ long_fault words ∷ [])
+-- precedes it: where a file has several models, a `.model` line begins the lines of the next one
+unfoldable pub model_fault : Bool → ℕ → List (List ℕ) → Option BlifFault
+model_fault begun number words = first_of
+    (when begun (UnknownWord number) ∷ when (nat_lt 1 (length words)) (BadArity number) ∷ long_fault words ∷ [])
 
 -- what is wrong with a line of ports; in the don't-care part it is skipped
 unfoldable pub ports_fault : Part → ℕ → List (List ℕ) → Option BlifFault
@@ -241,6 +236,20 @@ gate_fault library place nodes number words = first_of
     (when (not (is_in_model place)) (UnknownWord number) ∷ when (is_none words) (BadArity number) ∷ library_fault library number words
     ∷ long_fault (signals_of (other_words words)) ∷ one_too_many nodes ∷ [])
 
+-- the names in a word of a `.subckt` line: the formal and the actual of a pair
+abbrev pub pair_names : List ℕ → List (List ℕ)
+pair_names word = if is_pair word then pin_in word ∷ signal_in word ∷ [] else []
+
+-- the names that the words of a `.subckt` line mention: that of its model, then those of its pairs
+abbrev pub subckt_names : List (List ℕ) → List (List ℕ)
+subckt_names [] = []
+subckt_names (model ∷ words) = model ∷ flat_map pair_names words
+
+-- what is wrong with a `.subckt` line by itself; what it says of another model is not looked at
+unfoldable pub subckt_fault : Part → ℕ → List (List ℕ) → Option BlifFault
+subckt_fault place number words = first_of
+    (when (not (is_in_model place)) (UnknownWord number) ∷ when (is_none words) (BadArity number) ∷ long_fault (subckt_names words) ∷ [])
+
 -- what is wrong with the line that begins a KISS2 part; `had` says whether an earlier one began
 unfoldable pub start_fault : Part → Bool → ℕ → Option BlifFault
 start_fault place had number = when (not (is_in_model place) || had) (UnknownWord number)
@@ -252,13 +261,14 @@ place_fault place number = when (not (is_in_model place)) (UnknownWord number)
 -- what is wrong with a line after the lines before it, by its kind: its number, its words after the
 -- first, all words
 abbrev pub fault_as : Option (List TheGate) → Keyword → List Entry → ℕ → List (List ℕ) → List (List ℕ) → Option BlifFault
-fault_as library Model back number words whole = model_fault (part_behind back) (not (is_none back)) number words
+fault_as library Model back number words whole = model_fault (not (is_none back)) number words
 fault_as library Inputs back number words whole = ports_fault (part_behind back) number words
 fault_as library Outputs back number words whole = ports_fault (part_behind back) number words
 fault_as library Clock back number words whole = clock_fault (part_behind back) number words
 fault_as library Names back number words whole = names_fault (part_behind back) (nodes_in back) number words
 fault_as library Latch back number words whole = latch_fault (part_behind back) (nodes_in back) number words
 fault_as library Gate back number words whole = gate_fault library (part_behind back) (nodes_in back) number words
+fault_as library Subckt back number words whole = subckt_fault (part_behind back) number words
 fault_as library StartKiss back number words whole = start_fault (part_behind back) (has_kiss back) number
 fault_as library DontCare back number words whole = place_fault (part_behind back) number
 fault_as library End back number words whole = None

@@ -3,8 +3,9 @@
 -- ports, clocks, latches and tables; several port lines add up, and ports without a line are found;
 -- tables may come in any order; each signal has one driver, tables form no cycle, and all latches
 -- share one clock; tables after `.exdc` are the don't-care part. A model with a KISS2 part and
--- without a table, a latch or a gate of its own is a machine; the lines of that part are not among
--- these lines.
+-- without a table, a latch, a gate or a `.subckt` line of its own is a machine; the lines of that
+-- part are not among these lines. A `.subckt` line says nothing more of the model here: where a
+-- file has several models, the lines of an instance stand in its place.
 use Rattle.std.specs.Prelude.{◌≡◌, ℕ, ◌-◌, Bool, true, false, not, ◌&&◌, ◌==◌, Option, Some, None, Result, Ok, Err, List, [], ◌∷◌, ◌++◌, map, length, take, drop, find, flat_map, take_while, bytes_eq, codes, slice_index, if◌then◌else◌}
 use Rattle.std.specs.List.{filter, list_any}
 use Rattle.std.specs.Option.{option_map, option_or}
@@ -32,7 +33,7 @@ use Rattle.blif_lines.specs.declared.content.Head.{Head}
 use Rattle.blif_lines.specs.declared.content.Content.{Content}
 use Rattle.blif_lines.specs.declared.content.Content.TheVariants as content
 use Rattle.blif_lines.specs.declared.keyword.Keyword.{Keyword}
-use Rattle.blif_lines.specs.declared.keyword.Keyword.TheVariants.{Model, Inputs, Outputs, Clock, Names, Latch, Gate}
+use Rattle.blif_lines.specs.declared.keyword.Keyword.TheVariants.{Model, Inputs, Outputs, Clock, Names, Latch, Gate, Subckt}
 use Rattle.blif_lines.specs.declared.fault.BlifFault.{BlifFault}
 use Rattle.blif_lines.specs.declared.fault.ReadFault.{ReadFault}
 use Rattle.blif_lines.specs.declared.fault.ReadFault.TheVariants as read_fault
@@ -343,10 +344,19 @@ whole_fault library lines = first_of
 unfoldable pub has_nodes : List Entry → Bool
 has_nodes lines = list_any (λ line. is_node_kind (kind_of line)) lines
 
+-- whether a kind is that of instances
+abbrev pub is_instance_kind : Keyword → Bool
+is_instance_kind Subckt = true
+is_instance_kind kind = false
+
+-- whether a `.subckt` line is among lines
+unfoldable pub has_instances : List Entry → Bool
+has_instances lines = list_any (λ line. is_instance_kind (kind_of line)) lines
+
 -- whether lines describe a machine: a KISS2 part begins among them, and the model itself has no
--- table, latch or gate
+-- table, latch or gate and no `.subckt` line
 unfoldable pub is_machine : List Entry → Bool
-is_machine lines = has_kiss lines && not (has_nodes (model_lines lines))
+is_machine lines = has_kiss lines && not (has_nodes (model_lines lines)) && not (has_instances (model_lines lines))
 
 -- names that are listed, if a line lists any
 abbrev pub listed_where : Bool → List (List ℕ) → Option (List (List ℕ))

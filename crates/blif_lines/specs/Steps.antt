@@ -19,10 +19,10 @@ use Rattle.circuit_tables.specs.Folding.{folded}
 use Rattle.line_words.specs.LineWords.{first_word, other_words}
 use Rattle.genlib_format.specs.declared.gate.Gate.{Gate as TheGate}
 use Rattle.blif_lines.specs.Keyword.{keyword_of}
-use Rattle.blif_lines.specs.Lines.{when, first_of, input_words, last_word, joined, is_row_of, output_character, is_behind, model_fault, ports_fault, clock_fault, names_fault, latch_fault, gate_fault, start_fault, place_fault, is_none}
+use Rattle.blif_lines.specs.Lines.{when, first_of, input_words, last_word, joined, is_row_of, output_character, is_behind, model_fault, ports_fault, clock_fault, names_fault, latch_fault, gate_fault, subckt_fault, start_fault, place_fault, is_none}
 use Rattle.blif_lines.specs.Reader.{row_of, named_by, table_of, latch_of, latch_input, latch_output, timing_of, same_timing, names_beside, gate_tables, gate_inputs, listed_where, unless}
 use Rattle.blif_lines.specs.declared.keyword.Keyword.{Keyword}
-use Rattle.blif_lines.specs.declared.keyword.Keyword.TheVariants.{Model, Inputs, Outputs, Clock, Names, Latch, Gate, StartKiss, DontCare, End, Skipped, Row, Other}
+use Rattle.blif_lines.specs.declared.keyword.Keyword.TheVariants.{Model, Inputs, Outputs, Clock, Names, Latch, Gate, Subckt, StartKiss, DontCare, End, Skipped, Row, Other}
 use Rattle.blif_lines.specs.declared.part.Part.{Part}
 use Rattle.blif_lines.specs.declared.part.Part.TheVariants as part
 use Rattle.blif_lines.specs.declared.fault.LimitKind.TheVariants as limit
@@ -103,13 +103,14 @@ place_of draft = place_at draft.ended draft.has_part
 
 -- what is wrong with the next line: its kind, its number, its words after the first, all its words
 abbrev pub draft_fault : Option (List TheGate) → Keyword → Draft → ℕ → List (List ℕ) → List (List ℕ) → Option BlifFault
-draft_fault library Model draft number words whole = model_fault (place_of draft) draft.begun number words
+draft_fault library Model draft number words whole = model_fault draft.begun number words
 draft_fault library Inputs draft number words whole = ports_fault (place_of draft) number words
 draft_fault library Outputs draft number words whole = ports_fault (place_of draft) number words
 draft_fault library Clock draft number words whole = clock_fault (place_of draft) number words
 draft_fault library Names draft number words whole = names_fault (place_of draft) draft.nodes number words
 draft_fault library Latch draft number words whole = latch_fault (place_of draft) draft.nodes number words
 draft_fault library Gate draft number words whole = gate_fault library (place_of draft) draft.nodes number words
+draft_fault library Subckt draft number words whole = subckt_fault (place_of draft) number words
 draft_fault library StartKiss draft number words whole = start_fault (place_of draft) draft.has_kiss number
 draft_fault library DontCare draft number words whole = place_fault (place_of draft) number
 draft_fault library End draft number words whole = None
@@ -171,6 +172,7 @@ with_line library Gate draft number words whole = record (closed draft) {
   tables = tables_with draft.tables draft.reading ++ gate_tables library words;
   nodes = draft.nodes + 1;
 }
+with_line library Subckt draft number words whole = record (closed draft) { has_instances = true }
 with_line library StartKiss draft number words whole = record (closed draft) { has_kiss = true }
 with_line library DontCare draft number words whole = record (closed draft) {
   has_part = true;
@@ -207,6 +209,7 @@ no_lines = record {
   ended = false;
   has_part = false;
   has_kiss = false;
+  has_instances = false;
   name = codes "top";
   lists_inputs = false;
   inputs = [];
@@ -241,13 +244,14 @@ abbrev pub listed_or : Bool → List (List ℕ) → List (List ℕ) → List (Li
 listed_or true listed found = listed
 listed_or false listed found = found
 
--- what is kept of a model's lines: whether a KISS2 part begins, the name, whether lines list inputs
--- and outputs, the listed ones, all ports in order, clocks, the signals that are driven, those that
--- are read, those that tables, latches and gates read before a line lists inputs, the latches with
--- their timing and the line of the first whose timing differs, the tables, those of the don't-care
--- part
+-- what is kept of a model's lines: whether a KISS2 part begins, whether there is a `.subckt` line,
+-- the name, whether lines list inputs and outputs, the listed ones, all ports in order, clocks, the
+-- signals that are driven, those that are read, those that tables, latches and gates read before a
+-- line lists inputs, the latches with their timing and the line of the first whose timing differs,
+-- the tables, those of the don't-care part
 pub record Kept : Type 0 where
   pub has_kiss : Bool
+  pub has_instances : Bool
   pub name : List ℕ
   pub lists_inputs : Bool
   pub inputs : List (List ℕ)
@@ -268,6 +272,7 @@ pub record Kept : Type 0 where
 abbrev pub kept_of : Draft → Kept
 kept_of draft = record {
   has_kiss = draft.has_kiss;
+  has_instances = draft.has_instances;
   name = draft.name;
   lists_inputs = draft.lists_inputs;
   inputs = draft.inputs;
@@ -341,9 +346,10 @@ kept_circuit kept = record {
   dont_care = kept.dont_care;
 }
 
--- whether what is kept is a machine's: a KISS2 part begins, and nothing is driven
+-- whether what is kept is a machine's: a KISS2 part begins, nothing is driven, and there is no
+-- `.subckt` line
 abbrev pub is_kept_machine : Kept → Bool
-is_kept_machine kept = kept.has_kiss && is_none kept.drives
+is_kept_machine kept = kept.has_kiss && is_none kept.drives && not kept.has_instances
 
 -- the head of the machine of what is kept
 abbrev pub kept_head : Kept → Head

@@ -20,7 +20,7 @@ use crate::keyword::Keyword;
 use crate::latch_words::{add_latch, keep_timing, mixed_at, shared, timing_of};
 use crate::line_fault::{
     clock_fault, latch_fault, model_fault, names_fault, place_fault, ports_fault, row_fault,
-    start_fault,
+    start_fault, subckt_fault,
 };
 use crate::part::Part;
 use crate::row::{appended, mark_of};
@@ -42,7 +42,7 @@ pub struct Reading {
 }
 
 /// What the lines so far say: whether there was one, an end, the line that begins the don't-care
-/// part, and the one that begins a KISS2 part.
+/// part, the one that begins a KISS2 part, and a `.subckt` line.
 ///
 /// Of the model's own lines: the name, the ports that are listed and whether a line lists some, all
 /// ports in order, clocks, the signals that are driven, those that are read, those that nodes read
@@ -57,6 +57,7 @@ pub struct Draft {
     pub ended: bool,
     pub has_part: bool,
     pub has_kiss: bool,
+    pub has_instances: bool,
     pub name: Name,
     pub lists_inputs: bool,
     pub inputs: Names,
@@ -187,6 +188,7 @@ impl Draft {
             ended: false,
             has_part: false,
             has_kiss: false,
+            has_instances: false,
             name: name_of(alloc, b"top".as_slice())?,
             lists_inputs: false,
             inputs: Sequence::new(alloc),
@@ -224,8 +226,7 @@ impl Draft {
         ensures { (library : Option (List TheGate)) (whole : List (List ℕ)) → Takes result self.new
             (take_as library Keyword.Model self.old number (texts words.now) whole) }
     {
-        let place = place_at(self.ended, self.has_part);
-        if let Some(fault) = model_fault(place, self.begun, number, words) {
+        if let Some(fault) = model_fault(self.begun, number, words) {
             return Err(ReadFault::Fault(fault));
         }
         self.close()?;
@@ -425,6 +426,21 @@ impl Draft {
         Ok(())
     }
 
+    /// Reads a `.subckt` line.
+    #[tactic(auto, unfolding(crate::specs::Steps::take_as, crate::specs::Steps::closed))]
+    fn take_subckt(&mut self, number: usize, words: &[&[u8]]) -> Result<(), ReadFault>
+        ensures { (library : Option (List TheGate)) (whole : List (List ℕ)) → Takes result self.new
+            (take_as library Keyword.Subckt self.old number (texts words.now) whole) }
+    {
+        let place = place_at(self.ended, self.has_part);
+        if let Some(fault) = subckt_fault(place, number, words) {
+            return Err(ReadFault::Fault(fault));
+        }
+        self.close()?;
+        self.has_instances = true;
+        Ok(())
+    }
+
     /// Reads the line that begins a KISS2 part.
     #[tactic(auto, unfolding(crate::specs::Steps::take_as, crate::specs::Steps::closed))]
     fn take_kiss(&mut self, number: usize) -> Result<(), ReadFault>
@@ -462,6 +478,7 @@ impl Draft {
             Keyword::Names => self.take_names(alloc, number, others),
             Keyword::Latch => self.take_latch(alloc, number, others),
             Keyword::Gate => self.take_gate(alloc, library, number, others),
+            Keyword::Subckt => self.take_subckt(number, others),
             Keyword::StartKiss => self.take_kiss(number),
             Keyword::DontCare => self.take_part(alloc, number),
             Keyword::End => self.take_end(),
@@ -471,10 +488,11 @@ impl Draft {
         }
     }
 
-    /// Whether the lines describe a machine: a KISS2 part begins, and nothing is driven.
+    /// Whether the lines describe a machine: a KISS2 part begins, nothing is driven, and there is
+    /// no `.subckt` line.
     pub fn is_machine(&self) -> bool
         ensures { result ≡ is_kept_machine (kept_of self.now) }
     {
-        self.has_kiss && self.drives.is_empty()
+        self.has_kiss && self.drives.is_empty() && !self.has_instances
     }
 }

@@ -16,16 +16,18 @@ pub enum LimitKind {
     Rows,
     /// The inputs of a table: `MAX_INPUTS`.
     Inputs,
+    /// The models that are nested in each other: 64.
+    Depth,
 }
 
 /// Why a file is not read as a circuit. Lines are numbers of physical lines, from 1.
 #[derive(Debug, Drop, PartialEq)]
 pub enum BlifFault {
-    /// A line whose first word begins with `.` and is not known; any line but `.model` and `.end`
-    /// after `.end`; in the don't-care part any line but those of tables, ports and the end; a
-    /// second don't-care or KISS2 part.
+    /// A line whose first word begins with `.` and is not known; any line but `.end` after `.end`;
+    /// in the don't-care part any line but those of tables, ports and the end; a second don't-care
+    /// or KISS2 part; among the lines of one model a `.model` line that is not the first.
     UnknownWord(usize),
-    /// `.model` with two words or more, `.names` or `.gate` without one.
+    /// `.model` with two words or more, `.names`, `.gate` or `.subckt` without one.
     BadArity(usize),
     /// A line that is not a row of a table that is being read.
     BadRow(usize),
@@ -34,8 +36,8 @@ pub enum BlifFault {
     /// A `.latch` line whose words are not two signals, then a known kind and its control or
     /// neither, then a digit up to 3 or nothing.
     BadLatch(usize),
-    /// A `.model` line that is not the first logical line.
-    SecondModel(usize),
+    /// A `.model` line with the name of an earlier model of the file.
+    ModelTwice(usize),
     /// A `.gate` line without a library.
     NoLibrary(usize),
     /// A `.gate` line whose cell the library does not have.
@@ -43,8 +45,19 @@ pub enum BlifFault {
     /// A `.gate` line with a word after the cell that is not a pair, or whose pairs do not name
     /// each pin and the output once.
     BadPins(usize),
+    /// The first `.subckt` line of the file that names no model.
+    UnknownModel(usize),
+    /// The first `.subckt` line, in the models that the first one reaches, with a word that is no
+    /// pair `formal=actual`, with a formal that is no port of its model, with a formal twice, or
+    /// without an input of its model.
+    BadPorts(usize),
     /// A limit is exceeded; the number is what was reached.
     Limit(LimitKind, usize),
+    /// The first model, of those that the first one reaches, that reaches itself.
+    Recursion(Name),
+    /// The first name made for a signal of an instance that is also made for another signal, or is
+    /// in the first model.
+    NameClash(Name),
     /// A name that is listed twice among the inputs, or twice among the outputs; or a machine's
     /// output that is its input.
     NameTwice(Name),

@@ -11,6 +11,7 @@ pub enum Keyword {
     Names,
     Latch,
     Gate,
+    Subckt,
     StartKiss,
     DontCare,
     End,

@@ -8,13 +8,14 @@
 
 ghost use Rattle.std.specs.Prelude.{◌≡◌, ◌<◌, ◌==◌, Some, None, length, IfSome};
 ghost use Rattle.line_words.specs.LineWords.{texts};
-ghost use Rattle.blif_lines.specs.Lines.{long_fault, one_too_many, is_init, is_latch_kind, is_latch_end, is_latch, latch_names, is_in_model, is_behind, model_fault, ports_fault, clock_fault, names_fault, latch_fault, start_fault, place_fault};
+ghost use Rattle.blif_lines.specs.Lines.{long_fault, one_too_many, is_init, is_latch_kind, is_latch_end, is_latch, latch_names, is_in_model, is_behind, model_fault, ports_fault, clock_fault, names_fault, latch_fault, subckt_fault, start_fault, place_fault};
 ghost use Rattle.blif_lines.specs.Steps.{reading_fault, next_fault};
 
 use crate::draft::Reading;
 use crate::fault::{BlifFault, LimitKind};
 use crate::part::Part;
 use crate::row::{is_row, mark_of};
+use crate::subckt_words::long_subckt_name;
 use crate::word_list::{first_words, front_words};
 use line_words::long_name;
 use sis_base::limits::{MAX_INPUTS, MAX_NODES, MAX_ROWS};
@@ -63,17 +64,14 @@ pub fn one_too_many(nodes: usize) -> Option<BlifFault>
 /// What is wrong with the words of a `.model` line after the first; `begun` says whether a line
 /// precedes it.
 #[tactic(auto, unfolding(crate::specs::Lines::model_fault, crate::specs::Lines::first_of))]
-pub fn model_fault(place: Part, begun: bool, number: usize, words: &[&[u8]]) -> Option<BlifFault>
-    ensures { result ≡ model_fault place begun number (texts words.now) }
+pub fn model_fault(begun: bool, number: usize, words: &[&[u8]]) -> Option<BlifFault>
+    ensures { result ≡ model_fault begun number (texts words.now) }
 {
-    if let Part::DontCare = place {
+    if begun {
         return Some(BlifFault::UnknownWord(number));
     }
     if words.len() > 1 {
         return Some(BlifFault::BadArity(number));
-    }
-    if begun {
-        return Some(BlifFault::SecondModel(number));
     }
     long_fault(words)
 }
@@ -197,6 +195,23 @@ pub fn latch_fault(place: Part, nodes: usize, number: usize, words: &[&[u8]]) ->
         return Some(fault);
     }
     one_too_many(nodes)
+}
+
+/// What is wrong with the words of a `.subckt` line after the first, by itself.
+#[tactic(auto, unfolding(crate::specs::Lines::subckt_fault, crate::specs::Lines::first_of))]
+pub fn subckt_fault(place: Part, number: usize, words: &[&[u8]]) -> Option<BlifFault>
+    ensures { result ≡ subckt_fault place number (texts words.now) }
+{
+    if !is_in_model(place) {
+        return Some(BlifFault::UnknownWord(number));
+    }
+    if words.is_empty() {
+        return Some(BlifFault::BadArity(number));
+    }
+    match long_subckt_name(words) {
+        None => None,
+        Some(len) => Some(BlifFault::Limit(LimitKind::Name, len)),
+    }
 }
 
 /// What is wrong with the line that begins a KISS2 part; `had` says whether an earlier one began.

@@ -50,7 +50,7 @@ fn add_new(
 }
 
 /// The names that are not among others, each once, in order of first mention.
-fn names_beside(alloc: Global, others: &[Name], names: &[Name]) -> Result<Names, AllocError>
+pub fn names_beside(alloc: Global, others: &[Name], names: &[Name]) -> Result<Names, AllocError>
     ensures { IfOk result (λ found. found ≡ names_beside others.now names.now) }
 {
     let mut known = set_of(alloc, others)?;

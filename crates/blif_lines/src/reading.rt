@@ -22,7 +22,7 @@ use sis_text::{Line, texts_at};
 use std::alloc::Global;
 
 /// Reads one logical line of a text.
-fn take_line(
+pub fn take_line(
     alloc: Global,
     source: &[u8],
     line: &Line,
@@ -37,7 +37,7 @@ fn take_line(
 }
 
 /// Reads the logical lines of a text, up to the first that has a fault.
-fn take_lines(
+pub fn take_lines(
     alloc: Global,
     source: &[u8],
     lines: &[Line],
@@ -99,7 +99,7 @@ fn read_circuit(alloc: Global, draft: Whole<Draft>) -> Result<Content, ReadFault
 /// What is read of a draft after the last line: its circuit or the head of a machine, if nothing is
 /// wrong with the whole.
 #[tactic(auto, unfolding(crate::specs::Steps::read_kept))]
-fn finish(alloc: Global, draft: Whole<Draft>) -> Result<Content, ReadFault>
+pub fn finish(alloc: Global, draft: Whole<Draft>) -> Result<Content, ReadFault>
     requires { HasApartTables (kept_of draft.it) }
     ensures { Reads result (finished draft.it) }
 {

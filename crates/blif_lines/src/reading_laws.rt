@@ -1,7 +1,8 @@
 //! Laws of what is read, each the contract of a call that does nothing.
 
-ghost use Rattle.std.specs.Prelude.{◌≡◌, List, Option, Ok, true};
+ghost use Rattle.std.specs.Prelude.{◌≡◌, List, Option, Ok, true, reverse};
 ghost use Rattle.std.specs.List.{AllByRecursion};
+ghost use Rattle.std.specs.Result.{result_err};
 ghost use Rattle.sis_base.specs.Written.{is_word};
 ghost use Rattle.circuit_model.specs.Counts.{IsWithinLimits};
 ghost use Rattle.circuit_model.specs.Soundness.{IsSound};
@@ -13,7 +14,10 @@ ghost use Rattle.blif_lines.specs.declared.content.Head.{Head as TheHead};
 ghost use Rattle.blif_lines.specs.Heads.{IsSoundHead, HasShortHead};
 ghost use Rattle.blif_lines.specs.Libraries.{IsSoundLibrary};
 ghost use Rattle.blif_lines.specs.Limits.{HasShortNames};
-ghost use Rattle.blif_lines.specs.Reader.{read_lines};
+ghost use Rattle.blif_lines.specs.Lines.{line_fault};
+ghost use Rattle.blif_lines.specs.Reader.{read_lines, has_instances, model_lines};
+ghost use Rattle.blif_lines.specs.Steps.{take_entry, take_entries, no_lines, kept_of, finish, HasApartTables};
+ghost use Rattle.blif_lines.specs.declared.draft.Draft.{Draft as TheDraft};
 
 /// Lines of words are read as a sound circuit, or a sound head of a machine.
 pub fn what_is_read_is_sound()
@@ -35,4 +39,20 @@ pub fn what_is_read_is_small()
         → read_lines library lines ≡ Ok (content.Circuit circuit) → HasShortNames circuit }
     ensures head { (library : Option (List Gate)) (lines : List Entry) (head : TheHead)
         → read_lines library lines ≡ Ok (content.Head head) → HasShortHead head }
+{}
+
+/// Taking lines into a draft, and then ending it, reads them. After lines without a fault the draft
+/// may be ended; it has an instance exactly if the model itself has one; and it has the fault of the
+/// next line.
+pub fn a_draft_reads_its_lines()
+    ensures whole { (library : Option (List Gate)) (lines : List Entry)
+        → finish (take_entries library no_lines lines) ≡ read_lines library lines }
+    ensures apart { (library : Option (List Gate)) (lines : List Entry) (draft : TheDraft)
+        → take_entries library no_lines lines ≡ Ok draft → HasApartTables (kept_of draft) }
+    ensures instances { (library : Option (List Gate)) (lines : List Entry) (draft : TheDraft)
+        → take_entries library no_lines lines ≡ Ok draft
+        → draft.has_instances ≡ has_instances (model_lines lines) }
+    ensures fault { (library : Option (List Gate)) (lines : List Entry) (draft : TheDraft)
+        (line : Entry) → take_entries library no_lines lines ≡ Ok draft
+        → result_err (take_entry library draft line) ≡ line_fault library (reverse lines) line }
 {}

@@ -43,11 +43,12 @@ fn node_keyword(word: &[u8]) -> Keyword
     ensures { result ≡ (if bytes_eq word.now (codes ".names") then Keyword.Names else
         (if bytes_eq word.now (codes ".latch") then Keyword.Latch else
         (if bytes_eq word.now (codes ".gate") then Keyword.Gate else
+        (if bytes_eq word.now (codes ".subckt") then Keyword.Subckt else
         (if bytes_eq word.now (codes ".start_kiss") then Keyword.StartKiss else
         (if bytes_eq word.now (codes ".exdc") then Keyword.DontCare else
         (if bytes_eq word.now (codes ".end") then Keyword.End else
         (if has skipped_words word.now then Keyword.Skipped else
-        (if begins_with 46 word.now then Keyword.Other else Keyword.Row)))))))) }
+        (if begins_with 46 word.now then Keyword.Other else Keyword.Row))))))))) }
 {
     if word == b".names".as_slice() {
         Keyword::Names
@@ -55,6 +56,8 @@ fn node_keyword(word: &[u8]) -> Keyword
         Keyword::Latch
     } else if word == b".gate".as_slice() {
         Keyword::Gate
+    } else if word == b".subckt".as_slice() {
+        Keyword::Subckt
     } else if word == b".start_kiss".as_slice() {
         Keyword::StartKiss
     } else if word == b".exdc".as_slice() {
