@@ -1,0 +1,91 @@
+//! What a line of a text is, by its first word, and the names of models that lines have.
+//!
+//! Source: BLIF appendix of the SIS report (UCB/ERL M92/41): `.model NAME` begins a model,
+//! `.subckt MODEL` puts one in, `.exdc` begins a don't-care part. All results are slices of the
+//! text.
+
+ghost use Rattle.std.specs.Prelude.{◌≡◌, map, drop};
+ghost use Rattle.sis_text.specs.Entries.{entry_at};
+ghost use Rattle.sis_text.specs.Words.{bytes_at};
+ghost use Rattle.line_words.specs.LineWords.{first_word, other_words};
+ghost use Rattle.blif_lines.specs.Keyword.{kind_of};
+ghost use Rattle.blif_lines.specs.Lines.{begins_part};
+ghost use Rattle.blif_lines.specs.Reader.{named_by};
+ghost use Rattle.blif_lines.specs.declared.keyword.Keyword.TheVariants as keyword;
+ghost use Rattle.blif_models.specs.Models.{begins_model, is_instance, model_of};
+
+use sis_text::{Line, Span, bytes_at};
+
+/// The first of some words; no bytes if there is none.
+fn first_of<'a>(text: &'a [u8], words: &[Span]) -> &'a [u8]
+    ensures { result.now ≡ first_word (map (bytes_at text.now) words.now) }
+{
+    match words {
+        [] => b"".as_slice(),
+        [first, ..] => bytes_at(text, *first),
+    }
+}
+
+/// Whether a line begins a model.
+#[tactic(auto, using(crate::proofs::FirstWords::model_by_word), unfolding(blif_lines::specs::Keyword::kind_of))]
+pub fn begins_model(text: &[u8], line: &Line) -> bool
+    ensures { result ≡ begins_model (entry_at text.now line.now) }
+{
+    first_of(text, line.words.as_slice()) == b".model".as_slice()
+}
+
+/// Whether a line puts in an instance of a model.
+#[tactic(auto, using(crate::proofs::FirstWords::instance_by_word), unfolding(blif_lines::specs::Keyword::kind_of))]
+pub fn is_instance(text: &[u8], line: &Line) -> bool
+    ensures { result ≡ is_instance (entry_at text.now line.now) }
+{
+    first_of(text, line.words.as_slice()) == b".subckt".as_slice()
+}
+
+/// Whether a line begins a don't-care part.
+#[tactic(auto, using(crate::proofs::FirstWords::part_by_word), unfolding(blif_lines::specs::Keyword::kind_of))]
+pub fn begins_part(text: &[u8], line: &Line) -> bool
+    ensures { result ≡ begins_part (kind_of (entry_at text.now line.now)) }
+{
+    first_of(text, line.words.as_slice()) == b".exdc".as_slice()
+}
+
+/// The words of a line after the first.
+fn behind(words: &[Span]) -> &[Span]
+    ensures { result.now ≡ drop 1 words.now }
+{
+    match words {
+        [] => words,
+        [_, others @ ..] => others,
+    }
+}
+
+/// The name of the model of an instance.
+#[tactic(auto, using(crate::proofs::FirstWords::words_behind))]
+pub fn model_of<'a>(text: &'a [u8], line: &Line) -> &'a [u8]
+    ensures { result.now ≡ model_of (entry_at text.now line.now) }
+{
+    first_of(text, behind(line.words.as_slice()))
+}
+
+/// The name in the words after `.model`; `top` if there is none.
+fn name_in<'a>(text: &'a [u8], words: &[Span]) -> &'a [u8]
+    ensures { result.now ≡ named_by keyword.Model (map (bytes_at text.now) words.now) }
+{
+    match words {
+        [] => b"top".as_slice(),
+        [name, ..] => bytes_at(text, *name),
+    }
+}
+
+/// The name of a model, by its first line.
+#[tactic(auto, using(crate::proofs::FirstWords::words_behind, crate::proofs::FirstWords::named_beside, crate::proofs::FirstWords::named_model))]
+pub fn name_on<'a>(text: &'a [u8], line: &Line) -> &'a [u8]
+    ensures { result.now ≡ named_by (kind_of (entry_at text.now line.now))
+        (other_words (entry_at text.now line.now).words) }
+{
+    if !begins_model(text, line) {
+        return b"top".as_slice();
+    }
+    name_in(text, behind(line.words.as_slice()))
+}
