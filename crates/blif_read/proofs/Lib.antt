@@ -1,3 +1,5 @@
+pub mod Beside
+pub mod PartLast
 pub mod PartLines
 pub mod PartWords
 pub mod Ports

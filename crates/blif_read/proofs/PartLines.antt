@@ -9,23 +9,24 @@ use Rattle.sis_text.specs.declared.places.Line.{Line}
 use Rattle.sis_text.specs.Entries.{Entry, entry_at}
 use Rattle.blif_lines.specs.Keyword.{keyword_of}
 use Rattle.blif_lines.specs.Lines.{begins_kiss}
-use Rattle.blif_lines.specs.declared.keyword.Keyword.TheVariants.{Model, Inputs, Outputs, Clock, Names, Latch, Gate, DontCare, End, Skipped, Row, Other}
+use Rattle.blif_lines.specs.declared.keyword.Keyword.TheVariants.{Model, Inputs, Outputs, Clock, Names, Latch, Gate, Subckt, DontCare, End, Skipped, Row, Other}
 
-other_begins : (a b c d e f g i j k l : Bool) → begins_kiss
+other_begins : (a b c d e f g h i j k l : Bool) → begins_kiss
     (if a then Model else (if b then Inputs else (if c then Outputs else (if d then Clock else (if e then Names else (if f then Latch else (if g then Gate
-    else (if i then DontCare else (if j then End else (if k then Skipped else (if l then Other else Row))))))))))) ≡ false
-other_begins true b c d e f g i j k l = refl
-other_begins false true c d e f g i j k l = refl
-other_begins false false true d e f g i j k l = refl
-other_begins false false false true e f g i j k l = refl
-other_begins false false false false true f g i j k l = refl
-other_begins false false false false false true g i j k l = refl
-other_begins false false false false false false true i j k l = refl
-other_begins false false false false false false false true j k l = refl
-other_begins false false false false false false false false true k l = refl
-other_begins false false false false false false false false false true l = refl
-other_begins false false false false false false false false false false true = refl
-other_begins false false false false false false false false false false false = refl
+    else (if h then Subckt else (if i then DontCare else (if j then End else (if k then Skipped else (if l then Other else Row)))))))))))) ≡ false
+other_begins true b c d e f g h i j k l = refl
+other_begins false true c d e f g h i j k l = refl
+other_begins false false true d e f g h i j k l = refl
+other_begins false false false true e f g h i j k l = refl
+other_begins false false false false true f g h i j k l = refl
+other_begins false false false false false true g h i j k l = refl
+other_begins false false false false false false true h i j k l = refl
+other_begins false false false false false false false true i j k l = refl
+other_begins false false false false false false false false true j k l = refl
+other_begins false false false false false false false false false true k l = refl
+other_begins false false false false false false false false false false true l = refl
+other_begins false false false false false false false false false false false true = refl
+other_begins false false false false false false false false false false false false = refl
 
 start_begins : begins_kiss (keyword_of (codes ".start_kiss")) ≡ true
 unfolding keyword_of
@@ -38,7 +39,7 @@ begins_by_word word = by (bytes_eq word (codes ".start_kiss")) refl
   where
     by : (b : Bool) → bytes_eq word (codes ".start_kiss") ≡ b → b ≡ begins_kiss (keyword_of word)
     by true e = subst (λ one. true ≡ begins_kiss (keyword_of one)) (sym ((bytes_eq-Decides word (codes ".start_kiss")).0 e)) (sym start_begins)
-    by false e = rw e (sym (other_begins _ _ _ _ _ _ _ _ _ _ _))
+    by false e = rw e (sym (other_begins _ _ _ _ _ _ _ _ _ _ _ _))
 
 -- all lines come before an index past the last, and none after it
 pub all_to : (lines : List Line) (place : ℕ) → length lines ≤ place → lines ≡ take (place + 1) lines

@@ -1,14 +1,10 @@
 -- What holds of each line holds of those of the part and of those of the model.
-use Rattle.std.specs.Prelude.{ℕ, suc, zero, not, List, [], ◌∷◌, drop}
+use Rattle.std.specs.Prelude.{not, List, drop}
 use Rattle.std.specs.List.{AllByRecursion, prefix_len}
 use Rattle.sis_text.specs.Entries.{Entry}
 use Rattle.blif_lines.proofs.NameLists.{all_append, all_taken}
+use Rattle.blif_models.proofs.PortWords.{all_dropped}
 use Rattle.blif_read.specs.Parts.{ends_kiss, front_count, front_lines, kiss_lines, rest_lines, lines_beside}
-
-all_dropped : {A : Type 0} (P : A → Type 0) (count : ℕ) (xs : List A) → AllByRecursion P xs → AllByRecursion P (drop count xs)
-all_dropped P zero xs h = h
-all_dropped P (suc count) [] h = tt
-all_dropped P (suc count) (x ∷ xs) h = all_dropped P count xs h.1
 
 pub model_holds : (P : Entry → Type 0) (lines : List Entry) → AllByRecursion P lines → AllByRecursion P (lines_beside lines)
 unfolding lines_beside front_lines rest_lines

@@ -1,16 +1,13 @@
 -- What holds of what is read, by what holds of the model and of the table of its KISS2 part.
-use Rattle.std.proofs.Common.{◌≡◌, ℕ, ◌≤◌, true, Option, Some, None, Result, Ok, Err, List, [], ◌∷◌, length, IfOk, refl, sym, ◌∙◌, subst, arith}
+use Rattle.std.proofs.Common.{◌≡◌, ℕ, ◌≤◌, true, Option, Some, None, Result, Ok, Err, List, [], ◌∷◌, length, IfOk, refl, sym, ◌∙◌, subst}
 use Rattle.std.specs.List.{AllByRecursion}
 use Rattle.std.specs.Option.{option_map, option_or}
 use Rattle.sis_base.specs.Written.{is_word}
 use Rattle.sis_text.specs.Entries.{Entry}
 use Rattle.genlib_format.specs.declared.gate.Gate.{Gate}
 use Rattle.circuit_model.specs.declared.circuit.Circuit.{Circuit}
-use Rattle.circuit_model.specs.Counts.{IsWithinLimits}
-use Rattle.circuit_model.specs.Soundness.{IsSound}
-use Rattle.circuit_model.specs.MachineSoundness.{IsSoundMachine, IsShaped, all_names}
+use Rattle.circuit_model.specs.MachineSoundness.{IsSoundMachine, IsShaped}
 use Rattle.circuit_model.specs.declared.machine.Machine.{Machine}
-use Rattle.circuit_model.specs.declared.machine.MachineRow.{MachineRow}
 use Rattle.circuit_model.specs.declared.machine.Spec.{Spec}
 use Rattle.circuit_model.specs.declared.machine.Spec.TheVariants as spec
 use Rattle.kiss_format.specs.Reader.{read_machine_lines, inputs_line, outputs_line}
@@ -18,11 +15,9 @@ use Rattle.kiss_format.specs.Trips.{IsWithinLimits as IsSmallMachine}
 use Rattle.kiss_format.specs.declared.fault.KissFault.{KissFault}
 use Rattle.kiss_format.proofs.Sound.{read_sound, read_short, read_limited}
 use Rattle.blif_lines.specs.Libraries.{IsSoundLibrary}
-use Rattle.blif_lines.proofs.WhatIsRead.{sound_read, sound_head_read, small_read, short_read, short_head_read}
-use Rattle.blif_lines.specs.Heads.{IsSoundHead, HasShortHead}
-use Rattle.blif_lines.specs.Limits.{HasShortNames}
+use Rattle.blif_lines.specs.Heads.{IsSoundHead}
 use Rattle.blif_lines.specs.Lines.{first_of}
-use Rattle.blif_lines.specs.Reader.{read_lines as read_model, unless}
+use Rattle.blif_lines.specs.Reader.{unless}
 use Rattle.blif_lines.specs.declared.content.Head.{Head}
 use Rattle.blif_lines.specs.declared.content.Content.{Content}
 use Rattle.blif_lines.specs.declared.content.Content.TheVariants as content
@@ -31,6 +26,8 @@ use Rattle.blif_lines.specs.declared.fault.BlifFault.TheVariants.{BadKiss, NameT
 use Rattle.blif_lines.specs.declared.fault.ReadFault.{ReadFault}
 use Rattle.blif_lines.specs.declared.fault.ReadFault.TheVariants.{Fault, Memory}
 use Rattle.blif_lines.proofs.NameLists.{all_kept}
+use Rattle.blif_models.specs.Reader.{read_models}
+use Rattle.blif_models.proofs.WhatIsRead.{sound_models, sound_head_models, small_models, short_models, short_head_models}
 use Rattle.blif_read.specs.Limits.{IsSoundSpec, IsSmallSpec, HasShortSpec}
 use Rattle.blif_read.specs.Parts.{kiss_lines, lines_beside}
 use Rattle.blif_read.specs.Reader.{count_fault, made_again, made_twice, machine_fault, named, machine_with, spec_with, read_lines, Reads}
@@ -66,12 +63,12 @@ spec_holds P part (Ok (content.Head head)) read e circuits machines =
     machine_holds P head part (read_machine_lines part) read e (λ machine table none. machines head machine refl table none)
 
 read_holds : (P : Spec → Type 0) (library : Option (List Gate)) (lines : List Entry) (read : Spec) → read_lines library lines ≡ Ok read
-    → ((circuit : Circuit) → read_model library (lines_beside lines) ≡ Ok (content.Circuit circuit) → P (spec.Circuit circuit))
-    → ((head : Head) (machine : Machine) → read_model library (lines_beside lines) ≡ Ok (content.Head head) → read_machine_lines (kiss_lines lines) ≡ Ok machine
+    → ((circuit : Circuit) → read_models library (lines_beside lines) ≡ Ok (content.Circuit circuit) → P (spec.Circuit circuit))
+    → ((head : Head) (machine : Machine) → read_models library (lines_beside lines) ≡ Ok (content.Head head) → read_machine_lines (kiss_lines lines) ≡ Ok machine
     → machine_fault head (kiss_lines lines) machine ≡ None → P (spec.Machine (named head machine)))
     → P read
 unfolding read_lines
-read_holds P library lines read e circuits machines = spec_holds P (kiss_lines lines) (read_model library (lines_beside lines)) read e circuits machines
+read_holds P library lines read e circuits machines = spec_holds P (kiss_lines lines) (read_models library (lines_beside lines)) read e circuits machines
 
 pub reads_hold : (P : Spec → Type 0) (result : Result Spec ReadFault) (should : Result Spec BlifFault) → Reads result should → ((read : Spec) → should ≡ Ok read → P read) → IfOk result P
 reads_hold P (Ok read) should reads holds = holds read reads
@@ -145,17 +142,17 @@ AreWords lines = AllByRecursion (λ (line : Entry). AllByRecursion (λ word. is_
 pub spec_sound : (library : Option (List Gate)) (lines : List Entry) (read : Spec) → AreWords lines → read_lines library lines ≡ Ok read → IsSoundSpec read
 spec_sound library lines read words e =
     let of_model = model_holds (λ (line : Entry). AllByRecursion (λ word. is_word word ≡ true) line.words) lines words in
-    read_holds IsSoundSpec library lines read e (λ circuit model. sound_read library (lines_beside lines) circuit of_model model)
-    (λ head machine model table none. named_sound head machine (no_fault head (kiss_lines lines) machine none) (sound_head_read library (lines_beside lines) head of_model model)
+    read_holds IsSoundSpec library lines read e (λ circuit model. sound_models library (lines_beside lines) circuit of_model model)
+    (λ head machine model table none. named_sound head machine (no_fault head (kiss_lines lines) machine none) (sound_head_models library (lines_beside lines) head of_model model)
     (read_sound (kiss_lines lines) machine (kiss_holds (λ (line : Entry). AllByRecursion (λ word. is_word word ≡ true) line.words) lines words) table))
 
 pub spec_small : (library : Option (List Gate)) (lines : List Entry) (read : Spec) → IsSoundLibrary library → read_lines library lines ≡ Ok read → IsSmallSpec read
 spec_small library lines read known e =
-    read_holds IsSmallSpec library lines read e (λ circuit model. small_read library (lines_beside lines) circuit known model)
+    read_holds IsSmallSpec library lines read e (λ circuit model. small_models library (lines_beside lines) circuit known model)
     (λ head machine model table none. named_small head machine (read_limited (kiss_lines lines) machine table))
 
 pub spec_short : (library : Option (List Gate)) (lines : List Entry) (read : Spec) → read_lines library lines ≡ Ok read → HasShortSpec read
 spec_short library lines read e =
-    read_holds HasShortSpec library lines read e (λ circuit model. short_read library (lines_beside lines) circuit model)
+    read_holds HasShortSpec library lines read e (λ circuit model. short_models library (lines_beside lines) circuit model)
     (λ head machine model table none.
-    names_hold (λ (name : List ℕ). length name ≤ MAX_NAME) head machine (short_head_read library (lines_beside lines) head model).names (read_short (kiss_lines lines) machine table))
+    names_hold (λ (name : List ℕ). length name ≤ MAX_NAME) head machine (short_head_models library (lines_beside lines) head model).names (read_short (kiss_lines lines) machine table))

@@ -23,6 +23,10 @@ front_lines lines = take (front_count lines) lines
 unfoldable pub kiss_lines : List Entry → List Entry
 kiss_lines lines = take_while (λ line. not (ends_kiss line)) (drop (front_count lines) lines)
 
+-- the lines of the part with the one that ends it, if one does
+unfoldable pub ended_lines : List Entry → List Entry
+ended_lines lines = take (length (kiss_lines lines) + 1) (drop (front_count lines) lines)
+
 -- the lines after the one that ends the part
 unfoldable pub rest_lines : List Entry → List Entry
 rest_lines lines = drop (length (kiss_lines lines) + 1) (drop (front_count lines) lines)

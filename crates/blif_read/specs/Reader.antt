@@ -1,8 +1,9 @@
 -- What a file's logical lines are read as: the first fault, or the circuit or the machine that they
--- describe. Source: BLIF appendix of the SIS report (UCB/ERL M92/41): a model with a state table
--- and without a table, a latch or a gate of its own is that machine, under the model's names of
--- ports. The made names of ports that no line lists, and the order of the causes, are the project's
--- own.
+-- describe. Source: BLIF appendix of the SIS report (UCB/ERL M92/41): a file is a list of models, of
+-- which the first is read, with each instance of another in its place; a first model with a state
+-- table and without a table, a latch, a gate or a `.subckt` line of its own is that machine, under
+-- the model's names of ports. The made names of ports that no line lists, and the order of the
+-- causes, are the project's own.
 use Rattle.std.specs.Prelude.{◌≡◌, ℕ, not, ◌==◌, Option, Some, None, Result, Ok, Err, List, [], ◌∷◌, length, find, unwrap_or}
 use Rattle.std.specs.Option.{option_map, option_or}
 use Rattle.circuit_model.specs.Names.{has}
@@ -15,7 +16,7 @@ use Rattle.kiss_format.specs.declared.fault.KissFault.{KissFault}
 use Rattle.kiss_format.specs.declared.fault.KissFault.TheVariants.{BadHeader}
 use Rattle.kiss_format.specs.Reader.{read_machine_lines, inputs_line, outputs_line}
 use Rattle.blif_lines.specs.Lines.{when, first_of}
-use Rattle.blif_lines.specs.Reader.{read_lines as read_model, unless}
+use Rattle.blif_lines.specs.Reader.{unless}
 use Rattle.blif_lines.specs.declared.content.Head.{Head}
 use Rattle.blif_lines.specs.declared.content.Content.{Content}
 use Rattle.blif_lines.specs.declared.content.Content.TheVariants as content
@@ -23,6 +24,7 @@ use Rattle.blif_lines.specs.declared.fault.BlifFault.{BlifFault}
 use Rattle.blif_lines.specs.declared.fault.BlifFault.TheVariants.{BadKiss, NameTwice}
 use Rattle.blif_lines.specs.declared.fault.ReadFault.{ReadFault}
 use Rattle.blif_lines.specs.declared.fault.ReadFault.TheVariants as read_fault
+use Rattle.blif_models.specs.Reader.{read_models}
 use Rattle.blif_read.specs.Parts.{kiss_lines, lines_beside}
 
 -- a line that gives another number of ports than are listed is a bad header; a state table that is
@@ -60,7 +62,7 @@ abbrev pub machine_with : Head → List Entry → Result Machine KissFault → R
 machine_with head part (Err fault) = Err (BadKiss fault)
 machine_with head part (Ok machine) = unless (machine_fault head part machine) (spec.Machine (named head machine))
 
--- what the content of a model and the lines of its KISS2 part are read as: a circuit is read as
+-- what the content of the first model and the lines of its KISS2 part are read as: a circuit is read as
 -- itself, and the part is skipped
 abbrev pub spec_with : List Entry → Result Content BlifFault → Result Spec BlifFault
 spec_with part (Err fault) = Err fault
@@ -69,7 +71,7 @@ spec_with part (Ok (content.Head head)) = machine_with head part (read_machine_l
 
 -- what a file's logical lines are read as, with a library if there is one
 unfoldable pub read_lines : Option (List Gate) → List Entry → Result Spec BlifFault
-read_lines library lines = spec_with (kiss_lines lines) (read_model library (lines_beside lines))
+read_lines library lines = spec_with (kiss_lines lines) (read_models library (lines_beside lines))
 
 -- what a reader answers, compared with what it should; want of memory is always allowed
 abbrev pub Reads : Result Spec ReadFault → Result Spec BlifFault → Type 0

@@ -1,17 +1,17 @@
-//! The lines of a KISS2 part and those of the model, as slices of the lines of a text.
+//! The lines of a KISS2 part and those beside it, as slices of the lines of a text.
 //!
 //! Source: BLIF appendix of the SIS report (UCB/ERL M92/41): a state table is between `.start_kiss`
-//! and `.end_kiss`; without `.end_kiss` the part goes to the end of the file. Each call returns
-//! exactly the lines of `specs/Parts.antt`. The line that begins the part belongs to the model, the
-//! one that ends it to neither.
+//! and `.end_kiss`; without `.end_kiss` the part goes to the end of the file. The line that begins
+//! the part belongs to the model, the one that ends it to neither. `part_last` moves the part's lines
+//! behind all others, so that these are one slice; it gives exactly the lines of `specs/Parts.antt`.
 
-ghost use Rattle.std.specs.Prelude.{◌≡◌, ◌+◌, not, map, length, take, drop, take_while};
+ghost use Rattle.std.specs.Prelude.{◌≡◌, ◌≤◌, ◌+◌, not, map, length, take, drop, take_while};
 ghost use Rattle.sis_text.specs.declared.places.Line.{Line};
 ghost use Rattle.sis_text.specs.Entries.{entry_at};
 ghost use Rattle.line_words.specs.LineWords.{first_word};
 ghost use Rattle.blif_lines.specs.Keyword.{kind_of};
 ghost use Rattle.blif_lines.specs.Lines.{begins_kiss};
-ghost use Rattle.blif_read.specs.Parts.{ends_kiss, front_count, front_lines, kiss_lines, rest_lines};
+ghost use Rattle.blif_read.specs.Parts.{ends_kiss, front_count, front_lines, ended_lines, rest_lines, lines_beside};
 
 use sis_text::{Line, bytes_at};
 
@@ -95,27 +95,42 @@ fn lines_behind_begin<'a>(source: &[u8], lines: &'a [Line]) -> &'a [Line]
 }
 
 /// The lines up to and including the first that begins a KISS2 part; all lines if none begins one.
-pub fn front_lines<'a>(source: &[u8], lines: &'a [Line]) -> &'a [Line]
+fn front_lines<'a>(source: &[u8], lines: &'a [Line]) -> &'a [Line]
     ensures { map (entry_at source.now) result.now ≡ front_lines
         (map (entry_at source.now) lines.now) }
 {
     lines_to(lines, begin_place(source, lines))
 }
 
-/// The lines of the KISS2 part: those after the line that begins it, before the first that ends it.
-pub fn kiss_lines<'a>(source: &[u8], lines: &'a [Line]) -> &'a [Line]
-    ensures { map (entry_at source.now) result.now ≡ kiss_lines
+/// The lines before the first that ends a KISS2 part; all lines if none ends one.
+pub fn lines_before_end<'a>(source: &[u8], lines: &'a [Line]) -> &'a [Line]
+    ensures { map (entry_at source.now) result.now ≡ take_while (λ line. not (ends_kiss line))
         (map (entry_at source.now) lines.now) }
 {
-    let rest = lines_behind_begin(source, lines);
-    &rest[..end_place(source, rest)]
+    &lines[..end_place(source, lines)]
 }
 
 /// The lines after the one that ends the KISS2 part.
-pub fn rest_lines<'a>(source: &[u8], lines: &'a [Line]) -> &'a [Line]
+fn rest_lines<'a>(source: &[u8], lines: &'a [Line]) -> &'a [Line]
     ensures { map (entry_at source.now) result.now ≡ rest_lines
         (map (entry_at source.now) lines.now) }
 {
     let rest = lines_behind_begin(source, lines);
     lines_behind(rest, end_place(source, rest))
+}
+
+/// Moves the lines of the KISS2 part, with the one that ends it, behind all others, and returns the
+/// number of the others.
+pub fn part_last(source: &[u8], lines: &mut [Line]) -> usize
+    ensures within { result ≤ length lines.new }
+    ensures beside { map (entry_at source.now) (take result lines.new) ≡ lines_beside
+        (map (entry_at source.now) lines.old) }
+    ensures part { map (entry_at source.now) (drop result lines.new) ≡ ended_lines
+        (map (entry_at source.now) lines.old) }
+{
+    let front = front_lines(source, lines).len();
+    let rest = rest_lines(source, lines).len();
+    let moved = lines.len() - front - rest;
+    lines[front..].rotate_left(moved);
+    lines.len() - moved
 }

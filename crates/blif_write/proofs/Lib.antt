@@ -5,7 +5,9 @@ pub mod RowTexts
 pub mod Backs
 pub mod NoFaults
 pub mod Said
+pub mod OtherKinds
 pub mod NoKiss
+pub mod OneModel
 pub mod GateTables
 pub mod ReadAgain
 pub mod Pairs

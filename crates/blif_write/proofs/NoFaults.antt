@@ -31,7 +31,7 @@ use Rattle.blif_lines.specs.declared.keyword.Keyword.TheVariants.{Model, Inputs,
 use Rattle.blif_lines.specs.declared.part.Part.TheVariants as part
 use Rattle.blif_lines.specs.declared.fault.LimitKind.TheVariants as limit
 use Rattle.blif_lines.specs.declared.fault.BlifFault.{BlifFault}
-use Rattle.blif_lines.specs.declared.fault.BlifFault.TheVariants.{UnknownWord, BadArity, BadRow, MixedPhase, BadLatch, SecondModel, Limit}
+use Rattle.blif_lines.specs.declared.fault.BlifFault.TheVariants.{UnknownWord, BadArity, BadRow, MixedPhase, BadLatch, Limit}
 use Rattle.blif_lines.proofs.NameLists.{all_append}
 use Rattle.blif_write.proofs.Words.{OfLatch, OfTable, OfNames, end_lines, gate_words, HasGateWords}
 use Rattle.blif_write.proofs.LineKinds.{entry, row_kind}
@@ -73,9 +73,9 @@ unfolding first_line_fault
 no_fault library back lines line e h = ap (λ (f : Option BlifFault). option_or f (first_line_fault library (line ∷ back) lines)) e ∙ h
 
 model_taken : (library : Option (List TheGate)) (number : ℕ) (name : List ℕ) → IsShort name → line_fault library [] (entry number (dotted (codes ".model") (name ∷ []))) ≡ None
-unfolding line_fault kind_of keyword_of model_fault part_behind is_ended has_part
+unfolding line_fault kind_of keyword_of model_fault
 model_taken library number name h =
-    none_of (when false (UnknownWord number) ∷ when (ltb 1 (length (name ∷ []))) (BadArity number) ∷ when false (SecondModel number) ∷ long_fault (name ∷ []) ∷ []) (refl, (refl, (refl, (not_long (name ∷ []) (h, tt), tt))))
+    none_of (when false (UnknownWord number) ∷ when (ltb 1 (length (name ∷ []))) (BadArity number) ∷ long_fault (name ∷ []) ∷ []) (refl, (refl, (not_long (name ∷ []) (h, tt), tt)))
 
 inputs_taken : (library : Option (List TheGate)) (number room : ℕ) (back : List Entry) (names : List (List ℕ)) → Goes false room back → AllByRecursion IsShort names → line_fault library back (entry number (dotted (codes ".inputs") names)) ≡ None
 unfolding line_fault kind_of keyword_of ports_fault

@@ -27,17 +27,19 @@ use Rattle.circuit_checks.proofs.Parts.{part_passes}
 use Rattle.circuit_tables.specs.Folding.{folded}
 use Rattle.circuit_tables.proofs.Folded.{folded_same, folded_outputs}
 use Rattle.blif_lines.specs.Lines.{first_of}
-use Rattle.blif_lines.specs.Reader.{first_line_fault, of_lines, model_lines, part_lines, listed_inputs, listed_outputs, inputs_in, outputs_in, ports_in, clocks_in, timing_in, mixed_clock, gated_clock, drives_in, reads_in, latches_in, tables_in, model_name, circuit_of, model_names_fault, leaves_in, whole_fault, unless, has_nodes, is_machine, first_fault, read_whole, read_lines as read_model}
+use Rattle.blif_lines.specs.Reader.{first_line_fault, of_lines, model_lines, part_lines, listed_inputs, listed_outputs, inputs_in, outputs_in, ports_in, clocks_in, timing_in, mixed_clock, gated_clock, drives_in, reads_in, latches_in, tables_in, model_name, circuit_of, model_names_fault, leaves_in, whole_fault, unless, has_nodes, has_instances, is_machine, first_fault, read_whole, read_lines as read_model}
 use Rattle.blif_lines.specs.declared.fault.BlifFault.{BlifFault}
 use Rattle.blif_lines.specs.declared.fault.BlifFault.TheVariants.{NameTwice, MixedClock, GatedClock, TwoDrivers, Undriven, BadExdc, Cycle}
 use Rattle.blif_lines.specs.Limits.{HasShortNames}
 use Rattle.blif_lines.proofs.NameLists.{all_front, all_back, all_append, all_kept}
 use Rattle.blif_lines.specs.declared.content.Content.TheVariants as content
 use Rattle.circuit_model.specs.declared.machine.Spec.TheVariants as spec
+use Rattle.blif_models.specs.Reader.{read_models}
 use Rattle.blif_read.specs.Parts.{kiss_lines}
 use Rattle.blif_read.specs.Reader.{spec_with, read_lines}
 use Rattle.sis_base.specs.declared.limits.TheConstants.{MAX_NODES}
 use Rattle.blif_write.proofs.NoKiss.{no_kiss, no_part}
+use Rattle.blif_write.proofs.OneModel.{read_as_one}
 use Rattle.blif_write.proofs.Words.{OfTable, OfNames, IsName, HasGateWords, of_names, lines_written}
 use Rattle.blif_write.proofs.NoFaults.{IsShort, IsKnown, none_of, no_line_fault}
 use Rattle.blif_write.proofs.GateTables.{KeepsReads, keeps_reads, acyclic_before, tables_keep, said_count, read_known}
@@ -218,7 +220,7 @@ unfolding read_model is_machine
 lines_read library gates base known sound limits short =
     let lines = lines_of gates base in
     ap (λ (fault : Option BlifFault). first_fault fault (read_whole library (is_machine lines) lines)) (no_line_fault_of library gates base known sound limits short)
-    ∙ ap (λ (b : Bool). read_whole library (b && not (has_nodes (model_lines lines))) lines) (no_kiss gates base)
+    ∙ ap (λ (b : Bool). read_whole library (b && not (has_nodes (model_lines lines)) && not (has_instances (model_lines lines))) lines) (no_kiss gates base)
     ∙ ap (λ (fault : Option BlifFault). unless fault (content.Circuit (circuit_of library lines))) (no_whole_fault library gates base sound)
     ∙ ap (λ (read : Circuit). Ok (content.Circuit read)) (circuit_back library gates base sound)
 
@@ -235,8 +237,8 @@ pub whole_read : (library : Option (List Gate)) (gates : List Placed) (base : Ci
 unfolding read_lines
 whole_read library gates base known sound limits short =
     ap (read_lines library) (text_lines library gates base known sound)
-    ∙ ap (λ (lines : List Entry). spec_with (kiss_lines (lines_of gates base)) (read_model library lines)) (no_part gates base)
-    ∙ ap (spec_with (kiss_lines (lines_of gates base))) (lines_read library gates base known sound limits short)
+    ∙ ap (λ (lines : List Entry). spec_with (kiss_lines (lines_of gates base)) (read_models library lines)) (no_part gates base)
+    ∙ ap (spec_with (kiss_lines (lines_of gates base))) (read_as_one library gates base ∙ lines_read library gates base known sound limits short)
 
 -- a circuit is one without gates
 pub text_read : (library : Option (List Gate)) (circuit : Circuit) → IsSound circuit → IsWithinLimits circuit → HasShortNames circuit → read_lines library (entries_of (text_of circuit)) ≡ Ok (spec.Circuit circuit)

@@ -1,5 +1,5 @@
 -- What the lines of a circuit and of gates beside it say, part by part.
-use Rattle.std.proofs.Common.{◌≡◌, ℕ, zero, suc, ◌+◌, ◌-◌, ◌≤◌, Bool, true, false, not, ◌||◌, cond, if◌then◌else◌, Option, Some, None, option_map, List, [], ◌∷◌, ◌++◌, refl, sym, ap, subst, ◌∙◌, arith, map, flat_map, find, take_while, codes, slice_index}
+use Rattle.std.proofs.Common.{◌≡◌, ℕ, zero, suc, ◌+◌, ◌-◌, ◌≤◌, Bool, true, false, not, ◌||◌, cond, if◌then◌else◌, Option, Some, None, option_map, List, [], ◌∷◌, ◌++◌, refl, sym, ap, subst, ◌∙◌, arith, map, drop, flat_map, find, take_while, codes, slice_index}
 use Rattle.std.specs.Prelude.{bytes_eq, option_to_list}
 use Rattle.std.specs.List.{AllByRecursion}
 use Rattle.std.proofs.lemmas.Grind.{flat_map-append}
@@ -28,7 +28,7 @@ use Rattle.blif_lines.specs.Keyword.{keyword_of, kind_of, is_row, is_row_kind}
 use Rattle.blif_lines.specs.Lines.{joined, begins_part}
 use Rattle.blif_lines.specs.Reader.{of_lines, model_lines, part_lines, listed_inputs, listed_outputs, listed_ports, listed_clocks, lists_inputs, lists_outputs, names_beside, driven_by, read_by, latches_by, init_of, inputs_in, outputs_in, ports_in, clocks_in, drives_in, reads_within, reads_in, latches_in, kind_by, control_by, timing_of, is_latch_line, latch_lines, timing_at, first_timing, timing_in, same_kind, same_control, same_timing, mixed_clock, tables_by, tables_in, table_of, model_name, gate_tables, gate_inputs}
 use Rattle.blif_lines.specs.declared.keyword.Keyword.{Keyword}
-use Rattle.blif_lines.specs.declared.keyword.Keyword.TheVariants.{Model, Inputs, Outputs, Clock, Names, Latch, Gate, StartKiss, DontCare, End, Skipped, Row, Other}
+use Rattle.blif_lines.specs.declared.keyword.Keyword.TheVariants.{Model, Inputs, Outputs, Clock, Names, Latch, Gate, Subckt, StartKiss, DontCare, End, Skipped, Row, Other}
 use Rattle.blif_lines.proofs.NameLists.{all_append}
 use Rattle.blif_lines.proofs.Agreement.{own_more, own_ends, part_later, part_here}
 use Rattle.blif_write.proofs.Words.{end_lines, stop_lines, part_written, gate_words, own_lines, lines_split}
@@ -352,6 +352,7 @@ untimed (line ∷ lines) e = by (kind_of line) e (untimed lines)
     by Clock f rec = rec f
     by Names f rec = rec f
     by Gate f rec = rec f
+    by Subckt f rec = rec f
     by StartKiss f rec = rec f
     by DontCare f rec = rec f
     by End f rec = rec f
@@ -504,9 +505,8 @@ IsNot test line = test (keyword_of line.first) ≡ false
 abbrev IsOwn : Written → Type 0
 IsOwn = IsNot begins_part
 
--- the kinds of the lines that are written in the model
+-- the kinds of the lines that are written in the model after its first
 abbrev is_own_kind : Keyword → Bool
-is_own_kind Model = true
 is_own_kind Inputs = true
 is_own_kind Outputs = true
 is_own_kind Clock = true
@@ -563,25 +563,26 @@ unfolding keyword_of
 own_stop test none [] = (none End refl, tt)
 own_stop test none (table ∷ part) = tt
 
-pub all_own : (test : Keyword → Bool) → OnNone test → (gates : List Placed) (circuit : Circuit) → AllByRecursion (IsNot test) (own_lines gates circuit)
+pub own_behind : (test : Keyword → Bool) → OnNone test → (gates : List Placed) (circuit : Circuit) → AllByRecursion (IsNot test) (drop 1 (own_lines gates circuit))
 unfolding own_lines keyword_of
-all_own test none gates circuit =
+own_behind test none gates circuit =
     let stop = stop_lines circuit.dont_care in
     let tables = flat_map table_lines circuit.tables in
     let cells = map gate_line gates in
     let latches = map (latch_line circuit.timing) circuit.latches in (
-      none Model refl,
+      none Inputs refl,
       (
-        none Inputs refl,
-        (
-          none Outputs refl,
-          all_append (IsNot test) (clock_lines circuit.clocks) (latches ++ (cells ++ (tables ++ stop))) (own_clocks test none circuit.clocks)
-              (all_append (IsNot test) latches (cells ++ (tables ++ stop)) (own_latches test none circuit.timing circuit.latches)
-              (all_append (IsNot test) cells (tables ++ stop) (own_gates test none gates)
-              (all_append (IsNot test) tables stop (own_tables test none circuit.tables) (own_stop test none circuit.dont_care)))),
-        ),
+        none Outputs refl,
+        all_append (IsNot test) (clock_lines circuit.clocks) (latches ++ (cells ++ (tables ++ stop))) (own_clocks test none circuit.clocks)
+            (all_append (IsNot test) latches (cells ++ (tables ++ stop)) (own_latches test none circuit.timing circuit.latches)
+            (all_append (IsNot test) cells (tables ++ stop) (own_gates test none gates)
+            (all_append (IsNot test) tables stop (own_tables test none circuit.tables) (own_stop test none circuit.dont_care)))),
       ),
     )
+
+pub all_own : (test : Keyword → Bool) → test Model ≡ false → OnNone test → (gates : List Placed) (circuit : Circuit) → AllByRecursion (IsNot test) (own_lines gates circuit)
+unfolding own_lines keyword_of
+all_own test first none gates circuit = (first, own_behind test none gates circuit)
 
 begins_none : OnNone begins_part
 begins_none Model e = refl
@@ -591,6 +592,7 @@ begins_none Clock e = refl
 begins_none Names e = refl
 begins_none Latch e = refl
 begins_none Gate e = refl
+begins_none Subckt e = refl
 begins_none StartKiss e = refl
 begins_none DontCare e = absurd (cc)
 begins_none End e = refl
@@ -613,9 +615,9 @@ part_back library (table ∷ part) h number =
 pub model_said : (gates : List Placed) (circuit : Circuit) → model_lines (lines_of gates circuit) ≡ own_of gates circuit
 model_said gates circuit =
     ap (λ (lines : List Written). model_lines (numbered 1 lines)) (lines_split gates circuit)
-    ∙ own_read (own_lines gates circuit) (part_written circuit.dont_care) (all_own begins_part begins_none gates circuit) (stops circuit.dont_care) 1
+    ∙ own_read (own_lines gates circuit) (part_written circuit.dont_care) (all_own begins_part refl begins_none gates circuit) (stops circuit.dont_care) 1
 
 pub part_said : (library : Option (List TheGate)) (gates : List Placed) (circuit : Circuit) → AllByRecursion IsShaped circuit.dont_care → tables_in library (part_lines (lines_of gates circuit)) ≡ circuit.dont_care
 part_said library gates circuit h =
     ap (λ (lines : List Written). tables_in library (part_lines (numbered 1 lines))) (lines_split gates circuit)
-    ∙ part_read library (own_lines gates circuit) (part_written circuit.dont_care) circuit.dont_care (all_own begins_part begins_none gates circuit) (part_back library circuit.dont_care h) 1
+    ∙ part_read library (own_lines gates circuit) (part_written circuit.dont_care) circuit.dont_care (all_own begins_part refl begins_none gates circuit) (part_back library circuit.dont_care h) 1
