@@ -28,6 +28,7 @@ blif_limit_word blif_limit.Name = codes "name"
 blif_limit_word blif_limit.Tables = codes "tables"
 blif_limit_word blif_limit.Rows = codes "rows"
 blif_limit_word blif_limit.Inputs = codes "inputs"
+blif_limit_word blif_limit.Depth = codes "depth"
 
 -- the word for what a limit of machines is on
 abbrev pub kiss_limit_word : KissLimit → List ℕ
@@ -58,11 +59,15 @@ blif_text (blif.BadArity line) = line_text line (codes "bad arity")
 blif_text (blif.BadRow line) = line_text line (codes "bad row")
 blif_text (blif.MixedPhase line) = line_text line (codes "mixed phase")
 blif_text (blif.BadLatch line) = line_text line (codes "bad latch")
-blif_text (blif.SecondModel line) = line_text line (codes "second model")
+blif_text (blif.ModelTwice line) = line_text line (codes "model twice")
 blif_text (blif.NoLibrary line) = line_text line (codes "no library")
 blif_text (blif.UnknownGate line) = line_text line (codes "unknown gate")
 blif_text (blif.BadPins line) = line_text line (codes "bad pins")
+blif_text (blif.UnknownModel line) = line_text line (codes "unknown model")
+blif_text (blif.BadPorts line) = line_text line (codes "bad ports")
 blif_text (blif.Limit kind reached) = limit_text (blif_limit_word kind) reached
+blif_text (blif.Recursion name) = codes "recursion in " ++ name
+blif_text (blif.NameClash name) = codes "name clash at " ++ name
 blif_text (blif.NameTwice name) = name ++ codes " listed twice"
 blif_text (blif.BadKiss fault) = kiss_text fault
 blif_text (blif.MixedClock line) = line_text line (codes "mixed clock")

@@ -18,6 +18,7 @@ fn limit_word(kind: LimitKind) -> &'static [u8]
         LimitKind::Tables => b"tables".as_slice(),
         LimitKind::Rows => b"rows".as_slice(),
         LimitKind::Inputs => b"inputs".as_slice(),
+        LimitKind::Depth => b"depth".as_slice(),
     }
 }
 
@@ -33,11 +34,15 @@ pub fn put_blif_fault(out: &mut Vec<u8>, alloc: Global, fault: &BlifFault) -> Re
         BlifFault::BadRow(line) => put_line(out, alloc, *line, b"bad row"),
         BlifFault::MixedPhase(line) => put_line(out, alloc, *line, b"mixed phase"),
         BlifFault::BadLatch(line) => put_line(out, alloc, *line, b"bad latch"),
-        BlifFault::SecondModel(line) => put_line(out, alloc, *line, b"second model"),
+        BlifFault::ModelTwice(line) => put_line(out, alloc, *line, b"model twice"),
         BlifFault::NoLibrary(line) => put_line(out, alloc, *line, b"no library"),
         BlifFault::UnknownGate(line) => put_line(out, alloc, *line, b"unknown gate"),
         BlifFault::BadPins(line) => put_line(out, alloc, *line, b"bad pins"),
+        BlifFault::UnknownModel(line) => put_line(out, alloc, *line, b"unknown model"),
+        BlifFault::BadPorts(line) => put_line(out, alloc, *line, b"bad ports"),
         BlifFault::Limit(kind, reached) => put_limit(out, alloc, limit_word(*kind), *reached),
+        BlifFault::Recursion(name) => put_two(out, b"recursion in ", name.as_slice()),
+        BlifFault::NameClash(name) => put_two(out, b"name clash at ", name.as_slice()),
         BlifFault::NameTwice(name) => put_two(out, name.as_slice(), b" listed twice"),
         BlifFault::BadKiss(fault) => put_kiss_fault(out, alloc, fault),
         BlifFault::MixedClock(line) => put_line(out, alloc, *line, b"mixed clock"),
