@@ -46,7 +46,7 @@ broken cut_in_a_joined_line.blif "undriven y" '.outputs y\n.inputs a \\'
 broken merge_conflict.blif "line 6: bad row" \
   "$ports.names a b y\n11 1\n<<<<<<< HEAD\n10 1\n=======\n01 1\n>>>>>>> other\n.end\n"
 broken prompt_and_no_end.blif "line 6: bad row" "$ports.names a b y\n11 1\njane@host:~\$ \n"
-broken two_files_and_no_end.blif "line 6: second model" "$ports.names a b y\n11 1\n$ports.end\n"
+broken two_files_and_no_end.blif "line 6: model twice" "$ports.names a b y\n11 1\n$ports.end\n"
 broken dos_line_ends.blif "line 6: bad row" \
   '.model m\r\n.inputs a \\\r\n b\r\n.outputs y\r\n.names a b y\r\n1 1\r\n.end\r\n'
 broken tabs.blif "line 7: mixed phase" \
