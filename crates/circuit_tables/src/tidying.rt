@@ -94,18 +94,11 @@ fn chosen_rows(alloc: Global, marks: &[bool], rows: &[Row]) -> Result<Rows, Allo
 fn narrowed(alloc: Global, table: Table) -> Result<Table, AllocError>
     ensures { IfOk result (λ made. made ≡ narrowed table) }
 {
-    let Table {
-        inputs,
-        output,
-        rows,
-        phase,
-    } = table;
-    let marks = used_places(alloc, inputs.as_slice(), rows.as_slice())?;
+    let marks = used_places(alloc, table.inputs.as_slice(), table.rows.as_slice())?;
     Ok(Table {
-        inputs: chosen_items(alloc, marks.as_slice(), inputs.as_slice())?,
-        output,
-        rows: chosen_rows(alloc, marks.as_slice(), rows.as_slice())?,
-        phase,
+        inputs: chosen_items(alloc, marks.as_slice(), table.inputs.as_slice())?,
+        rows: chosen_rows(alloc, marks.as_slice(), table.rows.as_slice())?,
+        ..table
     })
 }
 
@@ -155,17 +148,9 @@ fn with_phase_one(alloc: Global, table: Table) -> Result<Table, AllocError>
 fn with_rows_once(alloc: Global, table: Table) -> Result<Table, AllocError>
     ensures { IfOk result (λ made. made ≡ with_rows_once table) }
 {
-    let Table {
-        inputs,
-        output,
-        rows,
-        phase,
-    } = table;
     Ok(Table {
-        inputs,
-        output,
-        rows: rows_once(alloc, rows)?,
-        phase,
+        rows: rows_once(alloc, table.rows)?,
+        ..table
     })
 }
 
