@@ -228,26 +228,14 @@ fn grow_put(
 fn is_put_at(fates: &[Role], place: usize) -> bool
     ensures { result ≡ option_map_or is_put_fate (slice_get fates.now place) false }
 {
-    match fates.get(place) {
-        None => false,
-        Some(Role::Constant) => false,
-        Some(Role::Put) => true,
-        Some(Role::Unused) => false,
-        Some(Role::Root) => false,
-    }
+    matches!(fates.get(place), Some(Role::Put))
 }
 
 // Whether the table at an index is the root of a tree.
 fn is_root_at(fates: &[Role], place: usize) -> bool
     ensures { result ≡ option_map_or is_root_fate (slice_get fates.now place) false }
 {
-    match fates.get(place) {
-        None => false,
-        Some(Role::Constant) => false,
-        Some(Role::Put) => false,
-        Some(Role::Unused) => false,
-        Some(Role::Root) => true,
-    }
+    matches!(fates.get(place), Some(Role::Root))
 }
 
 // The table at an index, if there is one.
