@@ -78,30 +78,6 @@ fn add(
     Ok(())
 }
 
-// Enters a new kernel at its index, if there is room.
-fn enter_new(
-    alloc: Global,
-    kernel: Vec<Vec<Option<bool>>>,
-    place: usize,
-    seen: &mut Vec<Vec<Vec<Option<bool>>>>,
-    todo: &mut Vec<Vec<Vec<Option<bool>>>>,
-) -> Result<(), KernelFault>
-    requires order { Ascends rows_cmp (kernels_in seen.old.items) }
-    requires place { IsBetween (kernels_in seen.old.items) place (literals_in kernel.items) }
-    ensures more { OnOk result (IsMore (λ other. other ≡ literals_in kernel.items)
-        (kernels_in seen.old.items) (kernels_in todo.old.items) (kernels_in seen.new.items)
-        (kernels_in todo.new.items)) }
-    ensures has { OnOk result (Has (literals_in kernel.items) (kernels_in seen.new.items)) }
-    ensures over { IsErrOf result KernelFault.KernelLimit → TooMany
-        (λ other. other ≡ literals_in kernel.items) (kernels_in seen.old.items) }
-{
-    if seen.len() >= MAX_KERNELS {
-        return Err(KernelFault::KernelLimit);
-    }
-    add(alloc, kernel, place, seen, todo)?;
-    Ok(())
-}
-
 // The index of a kernel in increasing order, or the one at which it belongs.
 fn find_kernel(
     seen: &[Vec<Vec<Option<bool>>>],
@@ -114,7 +90,7 @@ fn find_kernel(
     seen.binary_search(kernel)
 }
 
-// Enters a kernel, unless it is seen.
+// Enters a kernel, unless it is seen, if there is room.
 fn enter(
     alloc: Global,
     kernel: Vec<Vec<Option<bool>>>,
@@ -132,7 +108,13 @@ fn enter(
 {
     match find_kernel(seen.as_slice(), &kernel) {
         Ok(_) => Ok(()),
-        Err(place) => enter_new(alloc, kernel, place, seen, todo),
+        Err(place) => {
+            if seen.len() >= MAX_KERNELS {
+                return Err(KernelFault::KernelLimit);
+            }
+            add(alloc, kernel, place, seen, todo)?;
+            Ok(())
+        }
     }
 }
 
