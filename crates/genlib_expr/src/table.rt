@@ -11,7 +11,7 @@ ghost use Rattle.genlib_expr.specs.Formula.{formula_of};
 ghost use Rattle.genlib_expr.specs.Functions.{function_of};
 ghost use Rattle.genlib_expr.specs.Tables.{values, twice, constant_values, pin_values, products, sums, complements, complemented, multiplied, added, tables_with, newest_table};
 
-use crate::{Expr, Node};
+use crate::{Expr, Node, take_two};
 use sis_base::Sequence;
 use std::alloc::{AllocError, Global};
 use std::collections::VecDeque;
@@ -114,24 +114,6 @@ fn sums(alloc: Global, left: &[bool], right: &[bool]) -> Result<Bits, AllocError
         made.push(left[i] || right[i])?;
     }
     Ok(Sequence::from_vec(made))
-}
-
-/// The newest two tables of the stack.
-#[derive(Drop)]
-struct Pair {
-    left: Bits,
-    right: Bits,
-}
-
-/// Takes the newest two tables off the stack, if there are two.
-fn take_two(waiting: &mut VecDeque<Bits>) -> Option<Pair>
-    ensures some { IfSome result (λ two. waiting.old.items
-        ≡ two.right ∷ two.left ∷ waiting.new.items) }
-    ensures none { result ≡ None → length waiting.old.items ≤ 1 }
-{
-    let right = waiting.pop_front()?;
-    let left = waiting.pop_front()?;
-    Some(Pair { left, right })
 }
 
 /// Complements the newest table, if there is one.

@@ -24,7 +24,7 @@ pub(crate) fn is_mark(byte: u8) -> bool
 }
 
 /// Whether a byte may occur in names.
-fn is_name_byte(byte: u8) -> bool
+pub fn is_name_byte(byte: u8) -> bool
     ensures { result ≡ is_name_byte byte }
 {
     !(byte == b'\t' || byte == b'\r' || byte == b' ' || byte == b'\n' || is_mark(byte))

@@ -13,6 +13,7 @@ ghost use Rattle.genlib_format.specs.Gates.{is_gate_name, name_in, unquoted, out
 use crate::pins::{PinLines, pin_lines};
 use crate::rest::Rest;
 use crate::words::{before, behind};
+use genlib_expr::is_name_byte;
 use sis_base::{Copied, Name, Sequence};
 use sis_text::{bytes_at, words};
 use std::alloc::{AllocError, Global};
@@ -27,25 +28,6 @@ pub struct GateLines {
     pub output: Name,
     pub text: Sequence<u8>,
     pub pins: PinLines,
-}
-
-/// Whether a byte may occur in names.
-fn is_name_byte(byte: u8) -> bool
-    ensures { result ≡ is_name_byte byte }
-{
-    !(byte == b'\t'
-        || byte == b'\r'
-        || byte == b' '
-        || byte == b'\n'
-        || byte == b'!'
-        || byte == b'#'
-        || byte == b'\''
-        || byte == b'('
-        || byte == b')'
-        || byte == b'*'
-        || byte == b'+'
-        || byte == b';'
-        || byte == b'=')
 }
 
 /// Whether all bytes may occur in names.

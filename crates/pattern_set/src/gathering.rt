@@ -18,7 +18,7 @@ ghost use Rattle.pattern_set.specs.Numbers.{AreNumbers, AreSets, SetsTaken, AllT
 
 use crate::joining::join_all;
 use crate::kind::{Kind, is_same};
-use genlib_expr::{Expr, Node};
+use genlib_expr::{Expr, Node, take_two};
 use sis_base::Sequence;
 use std::alloc::{AllocError, Global};
 use std::collections::VecDeque;
@@ -175,24 +175,6 @@ fn leaf(alloc: Global, arena: &mut Arena, place: usize) -> Result<Operands, Allo
     let mut set = Sequence::new(alloc);
     set.push(number)?;
     one(alloc, set)
-}
-
-// The two newest entries of the stack.
-#[derive(Drop)]
-struct Pair {
-    left: Operands,
-    right: Operands,
-}
-
-// Pops the two newest entries, if there are two.
-fn take_two(waiting: &mut VecDeque<Operands>) -> Option<Pair>
-    ensures some { IfSome result (λ two. waiting.old.items
-        ≡ two.right ∷ two.left ∷ waiting.new.items) }
-    ensures none { result ≡ None → length waiting.old.items ≤ 1 }
-{
-    let right = waiting.pop_front()?;
-    let left = waiting.pop_front()?;
-    Some(Pair { left, right })
 }
 
 // Combines the two newest entries, if there are two; otherwise none is left.
