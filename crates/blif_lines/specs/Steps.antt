@@ -422,6 +422,11 @@ Takes (Ok done) draft should = should ≡ Ok draft
 Takes (Err (read_fault.Fault fault)) draft should = should ≡ Err fault
 Takes (Err read_fault.Memory) draft should = Unit {0}
 
+-- a line of a kind is taken, whatever the library and the words of the whole line are
+abbrev pub TakesLine : Keyword → Draft → ℕ → List (List ℕ) → Result (Unit {0}) ReadFault → Draft → Type 0
+TakesLine kind before number words answer after =
+    (library : Option (List TheGate)) (whole : List (List ℕ)) → Takes answer after (take_as library kind before number words whole)
+
 -- the answer for a line of a gate, compared with the fault and the tables that it should have; want
 -- of memory is always allowed
 abbrev pub IsTable : Result Table ReadFault → Option BlifFault → List Table → Type 0

@@ -11,8 +11,8 @@ ghost use Rattle.sis_text.specs.Entries.{Entry};
 ghost use Rattle.line_words.specs.LineWords.{texts};
 ghost use Rattle.genlib_format.specs.declared.gate.Gate.{Gate as TheGate};
 ghost use Rattle.blif_lines.specs.declared.keyword.Keyword.{Keyword};
-ghost use Rattle.blif_lines.specs.Reader.{named_by, table_of};
-ghost use Rattle.blif_lines.specs.Steps.{with_row, row_behind, tables_with, closed, place_at, take_as, take_entry, no_lines, is_kept_machine, kept_of, Takes};
+ghost use Rattle.blif_lines.specs.Reader.{named_by, table_of, unless};
+ghost use Rattle.blif_lines.specs.Steps.{with_row, row_behind, tables_with, closed, place_at, place_of, take_as, take_entry, no_lines, is_kept_machine, kept_of, Takes, TakesLine};
 
 use crate::fault::{BlifFault, ReadFault};
 use crate::gate_words::{add_gate_signals, gate_table};
@@ -209,11 +209,21 @@ impl Draft {
         })
     }
 
-    /// Ends the table whose rows were being read.
-    #[tactic(auto, unfolding(crate::specs::Steps::closed))]
-    fn close(&mut self) -> Result<(), AllocFailed<Table>>
-        ensures { OnOk result (self.new ≡ closed self.old) }
+    /// The part of the next line.
+    fn place(&self) -> Part
+        ensures { result ≡ place_of self.now }
     {
+        place_at(self.ended, self.has_part)
+    }
+
+    /// Ends the table whose rows were being read, unless the next line has a fault.
+    #[tactic(auto, unfolding(crate::specs::Steps::closed))]
+    fn close_unless(&mut self, fault: Option<BlifFault>) -> Result<(), ReadFault>
+        ensures { Takes result self.new (unless fault (closed self.old)) }
+    {
+        if let Some(fault) = fault {
+            return Err(ReadFault::Fault(fault));
+        }
         let reading = self.reading.take();
         with_reading(&mut self.tables, reading)?;
         self.begun = true;
@@ -223,13 +233,10 @@ impl Draft {
     /// Reads a `.model` line.
     #[tactic(auto, unfolding(crate::specs::Steps::take_as, crate::specs::Steps::closed))]
     fn take_model(&mut self, alloc: Global, number: usize, words: &[&[u8]]) -> Result<(), ReadFault>
-        ensures { (library : Option (List TheGate)) (whole : List (List ℕ)) → Takes result self.new
-            (take_as library Keyword.Model self.old number (texts words.now) whole) }
+        ensures { TakesLine Keyword.Model self.old number (texts words.now) result self.new }
     {
-        if let Some(fault) = model_fault(self.begun, number, words) {
-            return Err(ReadFault::Fault(fault));
-        }
-        self.close()?;
+        let fault = model_fault(self.begun, number, words);
+        self.close_unless(fault)?;
         self.name = model_name(alloc, words)?;
         Ok(())
     }
@@ -242,14 +249,10 @@ impl Draft {
         number: usize,
         words: &[&[u8]],
     ) -> Result<(), ReadFault>
-        ensures { (library : Option (List TheGate)) (whole : List (List ℕ)) → Takes result self.new
-            (take_as library Keyword.Inputs self.old number (texts words.now) whole) }
+        ensures { TakesLine Keyword.Inputs self.old number (texts words.now) result self.new }
     {
-        let place = place_at(self.ended, self.has_part);
-        if let Some(fault) = ports_fault(place, number, words) {
-            return Err(ReadFault::Fault(fault));
-        }
-        self.close()?;
+        let fault = ports_fault(self.place(), number, words);
+        self.close_unless(fault)?;
         self.lists_inputs = !self.has_part || self.lists_inputs;
         add_more(alloc, self.has_part, &mut self.inputs, words)?;
         add_more(alloc, self.has_part, &mut self.ports, words)?;
@@ -264,14 +267,10 @@ impl Draft {
         number: usize,
         words: &[&[u8]],
     ) -> Result<(), ReadFault>
-        ensures { (library : Option (List TheGate)) (whole : List (List ℕ)) → Takes result self.new
-            (take_as library Keyword.Outputs self.old number (texts words.now) whole) }
+        ensures { TakesLine Keyword.Outputs self.old number (texts words.now) result self.new }
     {
-        let place = place_at(self.ended, self.has_part);
-        if let Some(fault) = ports_fault(place, number, words) {
-            return Err(ReadFault::Fault(fault));
-        }
-        self.close()?;
+        let fault = ports_fault(self.place(), number, words);
+        self.close_unless(fault)?;
         self.lists_outputs = !self.has_part || self.lists_outputs;
         add_more(alloc, self.has_part, &mut self.outputs, words)?;
         add_more(alloc, self.has_part, &mut self.ports, words)?;
@@ -282,14 +281,10 @@ impl Draft {
     /// Reads a `.clock` line.
     #[tactic(auto, unfolding(crate::specs::Steps::take_as, crate::specs::Steps::closed))]
     fn take_clock(&mut self, alloc: Global, number: usize, words: &[&[u8]]) -> Result<(), ReadFault>
-        ensures { (library : Option (List TheGate)) (whole : List (List ℕ)) → Takes result self.new
-            (take_as library Keyword.Clock self.old number (texts words.now) whole) }
+        ensures { TakesLine Keyword.Clock self.old number (texts words.now) result self.new }
     {
-        let place = place_at(self.ended, self.has_part);
-        if let Some(fault) = clock_fault(place, number, words) {
-            return Err(ReadFault::Fault(fault));
-        }
-        self.close()?;
+        let fault = clock_fault(self.place(), number, words);
+        self.close_unless(fault)?;
         add_names(alloc, &mut self.clocks, words)?;
         Ok(())
     }
@@ -297,14 +292,10 @@ impl Draft {
     /// Reads a `.names` line.
     #[tactic(auto, unfolding(crate::specs::Steps::take_as, crate::specs::Steps::closed))]
     fn take_names(&mut self, alloc: Global, number: usize, words: &[&[u8]]) -> Result<(), ReadFault>
-        ensures { (library : Option (List TheGate)) (whole : List (List ℕ)) → Takes result self.new
-            (take_as library Keyword.Names self.old number (texts words.now) whole) }
+        ensures { TakesLine Keyword.Names self.old number (texts words.now) result self.new }
     {
-        let place = place_at(self.ended, self.has_part);
-        if let Some(fault) = names_fault(place, self.nodes, number, words) {
-            return Err(ReadFault::Fault(fault));
-        }
-        self.close()?;
+        let fault = names_fault(self.place(), self.nodes, number, words);
+        self.close_unless(fault)?;
         let inputs = front_words(words);
         let kept = self.has_part || self.lists_inputs;
         let output = [last_word(words)];
@@ -320,14 +311,10 @@ impl Draft {
     /// Reads a `.latch` line.
     #[tactic(auto, unfolding(crate::specs::Steps::take_as, crate::specs::Steps::closed))]
     fn take_latch(&mut self, alloc: Global, number: usize, words: &[&[u8]]) -> Result<(), ReadFault>
-        ensures { (library : Option (List TheGate)) (whole : List (List ℕ)) → Takes result self.new
-            (take_as library Keyword.Latch self.old number (texts words.now) whole) }
+        ensures { TakesLine Keyword.Latch self.old number (texts words.now) result self.new }
     {
-        let place = place_at(self.ended, self.has_part);
-        if let Some(fault) = latch_fault(place, self.nodes, number, words) {
-            return Err(ReadFault::Fault(fault));
-        }
-        self.close()?;
+        let fault = latch_fault(self.place(), self.nodes, number, words);
+        self.close_unless(fault)?;
         add_names(alloc, &mut self.drives, latch_output(words))?;
         let input = first_words(words, 1);
         add_names(alloc, &mut self.reads, input)?;
@@ -344,14 +331,11 @@ impl Draft {
     /// Reads the line that begins the don't-care part.
     #[tactic(auto, unfolding(crate::specs::Steps::take_as, crate::specs::Steps::closed))]
     fn take_part(&mut self, alloc: Global, number: usize) -> Result<(), ReadFault>
-        ensures { (library : Option (List TheGate)) (words whole : List (List ℕ))
-            → Takes result self.new (take_as library Keyword.DontCare self.old number words whole) }
+        ensures { (words : List (List ℕ))
+            → TakesLine Keyword.DontCare self.old number words result self.new }
     {
-        let place = place_at(self.ended, self.has_part);
-        if let Some(fault) = place_fault(place, number) {
-            return Err(ReadFault::Fault(fault));
-        }
-        self.close()?;
+        let fault = place_fault(self.place(), number);
+        self.close_unless(fault)?;
         self.has_part = true;
         self.model_tables = mem::replace(&mut self.tables, Sequence::new(alloc));
         Ok(())
@@ -360,10 +344,10 @@ impl Draft {
     /// Reads an `.end` line.
     #[tactic(auto, unfolding(crate::specs::Steps::take_as, crate::specs::Steps::closed))]
     fn take_end(&mut self) -> Result<(), ReadFault>
-        ensures { (library : Option (List TheGate)) (number : ℕ) (words whole : List (List ℕ))
-            → Takes result self.new (take_as library Keyword.End self.old number words whole) }
+        ensures { (number : ℕ) (words : List (List ℕ))
+            → TakesLine Keyword.End self.old number words result self.new }
     {
-        self.close()?;
+        self.close_unless(None)?;
         self.ended = true;
         Ok(())
     }
@@ -371,15 +355,11 @@ impl Draft {
     /// Reads a line that is skipped.
     #[tactic(auto, unfolding(crate::specs::Steps::take_as, crate::specs::Steps::closed))]
     fn take_skipped(&mut self, number: usize) -> Result<(), ReadFault>
-        ensures { (library : Option (List TheGate)) (words whole : List (List ℕ))
-            → Takes result self.new (take_as library Keyword.Skipped self.old number words whole) }
+        ensures { (words : List (List ℕ))
+            → TakesLine Keyword.Skipped self.old number words result self.new }
     {
-        let place = place_at(self.ended, self.has_part);
-        if let Some(fault) = place_fault(place, number) {
-            return Err(ReadFault::Fault(fault));
-        }
-        self.close()?;
-        Ok(())
+        let fault = place_fault(self.place(), number);
+        self.close_unless(fault)
     }
 
     /// Reads a row.
@@ -389,8 +369,7 @@ impl Draft {
             (take_as library Keyword.Row self.old number words (texts whole.now)) }
     {
         let bytes = joined(alloc, whole)?;
-        let place = place_at(self.ended, self.has_part);
-        if let Some(fault) = row_fault(place, &self.reading, number, bytes.as_slice()) {
+        if let Some(fault) = row_fault(self.place(), &self.reading, number, bytes.as_slice()) {
             return Err(ReadFault::Fault(fault));
         }
         let reading = self.reading.take();
@@ -412,11 +391,10 @@ impl Draft {
             (take_as (option_copied library.entry) Keyword.Gate self.old number
             (texts words.now) whole) }
     {
-        let place = place_at(self.ended, self.has_part);
-        let table = gate_table(alloc, library, place, self.nodes, number, words)?;
+        let table = gate_table(alloc, library, self.place(), self.nodes, number, words)?;
         // Wrapped in a `Whole`, so that dropping it is one call.
         let table = Whole { it: table };
-        self.close()?;
+        self.close_unless(None)?;
         let inputs = table.it.inputs.as_slice();
         self.drives.push(table.it.output.copy(alloc)?)?;
         add_gate_signals(alloc, false, &mut self.reads, words, inputs)?;
@@ -429,14 +407,10 @@ impl Draft {
     /// Reads a `.subckt` line.
     #[tactic(auto, unfolding(crate::specs::Steps::take_as, crate::specs::Steps::closed))]
     fn take_subckt(&mut self, number: usize, words: &[&[u8]]) -> Result<(), ReadFault>
-        ensures { (library : Option (List TheGate)) (whole : List (List ℕ)) → Takes result self.new
-            (take_as library Keyword.Subckt self.old number (texts words.now) whole) }
+        ensures { TakesLine Keyword.Subckt self.old number (texts words.now) result self.new }
     {
-        let place = place_at(self.ended, self.has_part);
-        if let Some(fault) = subckt_fault(place, number, words) {
-            return Err(ReadFault::Fault(fault));
-        }
-        self.close()?;
+        let fault = subckt_fault(self.place(), number, words);
+        self.close_unless(fault)?;
         self.has_instances = true;
         Ok(())
     }
@@ -444,14 +418,11 @@ impl Draft {
     /// Reads the line that begins a KISS2 part.
     #[tactic(auto, unfolding(crate::specs::Steps::take_as, crate::specs::Steps::closed))]
     fn take_kiss(&mut self, number: usize) -> Result<(), ReadFault>
-        ensures { (library : Option (List TheGate)) (words whole : List (List ℕ))
-            → Takes result self.new (take_as library Keyword.StartKiss self.old number words whole) }
+        ensures { (words : List (List ℕ))
+            → TakesLine Keyword.StartKiss self.old number words result self.new }
     {
-        let place = place_at(self.ended, self.has_part);
-        if let Some(fault) = start_fault(place, self.has_kiss, number) {
-            return Err(ReadFault::Fault(fault));
-        }
-        self.close()?;
+        let fault = start_fault(self.place(), self.has_kiss, number);
+        self.close_unless(fault)?;
         self.has_kiss = true;
         Ok(())
     }

@@ -59,16 +59,7 @@ fn folded_tables(alloc: Global, tables: Tables) -> Result<Tables, AllocError>
 
 /// The circuit of a draft that is settled, with other tables for the model.
 fn circuit_with(draft: Draft, model_tables: Tables) -> Circuit
-    ensures { result ≡ record {
-      name = draft.name;
-      inputs = draft.inputs;
-      outputs = draft.outputs;
-      clocks = draft.clocks;
-      timing = draft.timing;
-      latches = draft.latches;
-      tables = model_tables;
-      dont_care = draft.tables;
-    } }
+    ensures { result ≡ record (settled_circuit draft) { tables = model_tables } }
 {
     let Draft {
         name,
