@@ -231,25 +231,11 @@ fn rows_from<R: Row>(
         return rows_from(alloc, rows, width, phase, place + 1, left - 1, limit);
     }
     let low_rows = rows_agreeing(alloc, rows, width, place, false)?;
-    let low = rows_from(
-        alloc,
-        low_rows.as_slice(),
-        width,
-        phase,
-        place + 1,
-        left - 1,
-        limit,
-    )?;
+    let lows = low_rows.as_slice();
+    let low = rows_from(alloc, lows, width, phase, place + 1, left - 1, limit)?;
     let high_rows = rows_agreeing(alloc, rows, width, place, true)?;
-    let high = rows_from(
-        alloc,
-        high_rows.as_slice(),
-        width,
-        phase,
-        place + 1,
-        left - 1,
-        limit,
-    )?;
+    let highs = high_rows.as_slice();
+    let high = rows_from(alloc, highs, width, phase, place + 1, left - 1, limit)?;
     let list = join_halves(alloc, low, high, width, place, limit)?;
     Ok(list)
 }

@@ -70,19 +70,19 @@ returns-then-not-any_literal-clause-limit g t c =
 
 pub rows_from-requires-2 : goal.rows_from-requires-2
 rows_from-requires-2 g t c κs within =
-    let low : map (λ (x : Bor g.row.R.Denot). g.R.Row.literals x.now) c.as_slice.result.now ≡ agreeing_rows c.args.place false (map (λ (x : Bor g.row.R.Denot). g.R.Row.literals x.now) c.args.rows.now) = rw c.as_slice.ensures.value c.in_ok-low_rows.ensures in
+    let low : map (λ (x : Bor g.row.R.Denot). g.R.Row.literals x.now) c.as_slice-lows.result.now ≡ agreeing_rows c.args.place false (map (λ (x : Bor g.row.R.Denot). g.R.Row.literals x.now) c.args.rows.now) = rw c.as_slice-lows.ensures.value c.in_ok-low_rows.ensures in
     (omega (arith, c.decreases), (within, (rw low (HasWidth-part _ _ _ _ c.requires.widths), omega (arith, c.requires.places))))
 
 pub rows_from-requires-3 : goal.rows_from-requires-3
 rows_from-requires-3 g t c κs within =
-    let high : map (λ (x : Bor g.row.R.Denot). g.R.Row.literals x.now) c.as_slice-2.result.now ≡ agreeing_rows c.args.place true (map (λ (x : Bor g.row.R.Denot). g.R.Row.literals x.now) c.args.rows.now) = rw c.as_slice-2.ensures.value c.in_ok-high_rows.ensures in
+    let high : map (λ (x : Bor g.row.R.Denot). g.R.Row.literals x.now) c.as_slice-highs.result.now ≡ agreeing_rows c.args.place true (map (λ (x : Bor g.row.R.Denot). g.R.Row.literals x.now) c.args.rows.now) = rw c.as_slice-highs.ensures.value c.in_ok-high_rows.ensures in
     (omega (arith, c.decreases), (within, (rw high (HasWidth-part _ _ _ _ c.requires.widths), omega (arith, c.requires.places))))
 
 pub returns-in_err-low-clause-limit : goal.returns-in_err-low-clause-limit
 returns-in_err-low-clause-limit g t c = λ e.
     let p = err_from_is_err_and c.from_residual-in_err-low.result c.from_residual-in_err-low.ensures.1 in
     let q : p.0 ≡ CubeLimit = cc in
-    let low : map (λ (x : Bor g.row.R.Denot). g.R.Row.literals x.now) c.as_slice.result.now ≡ agreeing_rows c.args.place false (map (λ (x : Bor g.row.R.Denot). g.R.Row.literals x.now) c.args.rows.now) = rw c.as_slice.ensures.value c.in_ok-low_rows.ensures in
+    let low : map (λ (x : Bor g.row.R.Denot). g.R.Row.literals x.now) c.as_slice-lows.result.now ≡ agreeing_rows c.args.place false (map (λ (x : Bor g.row.R.Denot). g.R.Row.literals x.now) c.args.rows.now) = rw c.as_slice-lows.ensures.value c.in_ok-low_rows.ensures in
     let h : c.args.limit < length (list_from (c.args.place + 1) (c.args.left - 1) c.args.phase (agreeing_rows c.args.place false (map (λ (x : Bor g.row.R.Denot). g.R.Row.literals x.now) c.args.rows.now))) = rw (← low) (c.in_err-low.ensures.limit (ap Err (sym p.2 ∙ q))) in
     omega (arith, half_at c.args.width c.args.place c.args.left c.args.phase (map (λ (x : Bor g.row.R.Denot). g.R.Row.literals x.now) c.args.rows.now) false c.requires.widths (omega arith) c.requires.places, h)
 
@@ -90,7 +90,7 @@ pub returns-in_err-high-clause-limit : goal.returns-in_err-high-clause-limit
 returns-in_err-high-clause-limit g t c = λ e.
     let p = err_from_is_err_and c.from_residual-in_err-high.result c.from_residual-in_err-high.ensures.1 in
     let q : p.0 ≡ CubeLimit = cc in
-    let high : map (λ (x : Bor g.row.R.Denot). g.R.Row.literals x.now) c.as_slice-2.result.now ≡ agreeing_rows c.args.place true (map (λ (x : Bor g.row.R.Denot). g.R.Row.literals x.now) c.args.rows.now) = rw c.as_slice-2.ensures.value c.in_ok-high_rows.ensures in
+    let high : map (λ (x : Bor g.row.R.Denot). g.R.Row.literals x.now) c.as_slice-highs.result.now ≡ agreeing_rows c.args.place true (map (λ (x : Bor g.row.R.Denot). g.R.Row.literals x.now) c.args.rows.now) = rw c.as_slice-highs.ensures.value c.in_ok-high_rows.ensures in
     let h : c.args.limit < length (list_from (c.args.place + 1) (c.args.left - 1) c.args.phase (agreeing_rows c.args.place true (map (λ (x : Bor g.row.R.Denot). g.R.Row.literals x.now) c.args.rows.now))) = rw (← high) (c.in_err-high.ensures.limit (ap Err (sym p.2 ∙ q))) in
     omega (arith, half_at c.args.width c.args.place c.args.left c.args.phase (map (λ (x : Bor g.row.R.Denot). g.R.Row.literals x.now) c.args.rows.now) true c.requires.widths (omega arith) c.requires.places, h)
 
@@ -106,9 +106,9 @@ pub returns-in_err-list-clause-limit : goal.returns-in_err-list-clause-limit
 returns-in_err-list-clause-limit g t c = λ e.
     let p = err_from_is_err_and c.from_residual-in_err-list.result c.from_residual-in_err-list.ensures.1 in
     let q : p.0 ≡ CubeLimit = cc in
-    let low : map (λ (x : Bor g.row.R.Denot). g.R.Row.literals x.now) c.as_slice.result.now ≡ agreeing_rows c.args.place false (map (λ (x : Bor g.row.R.Denot). g.R.Row.literals x.now) c.args.rows.now) = rw c.as_slice.ensures.value c.in_ok-low_rows.ensures in
+    let low : map (λ (x : Bor g.row.R.Denot). g.R.Row.literals x.now) c.as_slice-lows.result.now ≡ agreeing_rows c.args.place false (map (λ (x : Bor g.row.R.Denot). g.R.Row.literals x.now) c.args.rows.now) = rw c.as_slice-lows.ensures.value c.in_ok-low_rows.ensures in
     let lows : map g.R.Row.literals c.in_ok-low.low.items ≡ (list_from (c.args.place + 1) (c.args.left - 1) c.args.phase (agreeing_rows c.args.place false (map (λ (x : Bor g.row.R.Denot). g.R.Row.literals x.now) c.args.rows.now))) = rw (← low) c.in_ok-low.ensures.ok in
-    let high : map (λ (x : Bor g.row.R.Denot). g.R.Row.literals x.now) c.as_slice-2.result.now ≡ agreeing_rows c.args.place true (map (λ (x : Bor g.row.R.Denot). g.R.Row.literals x.now) c.args.rows.now) = rw c.as_slice-2.ensures.value c.in_ok-high_rows.ensures in
+    let high : map (λ (x : Bor g.row.R.Denot). g.R.Row.literals x.now) c.as_slice-highs.result.now ≡ agreeing_rows c.args.place true (map (λ (x : Bor g.row.R.Denot). g.R.Row.literals x.now) c.args.rows.now) = rw c.as_slice-highs.ensures.value c.in_ok-high_rows.ensures in
     let highs : map g.R.Row.literals c.in_ok-high.high.items ≡ (list_from (c.args.place + 1) (c.args.left - 1) c.args.phase (agreeing_rows c.args.place true (map (λ (x : Bor g.row.R.Denot). g.R.Row.literals x.now) c.args.rows.now))) = rw (← high) c.in_ok-high.ensures.ok in
     let h = c.in_err-list.ensures.limit (ap Err (sym p.2 ∙ q)) in
     let s : length c.in_ok-low.low.items ≡ length (list_from (c.args.place + 1) (c.args.left - 1) c.args.phase (agreeing_rows c.args.place false (map (λ (x : Bor g.row.R.Denot). g.R.Row.literals x.now) c.args.rows.now))) = sym (length-map c.in_ok-low.low.items g.R.Row.literals) ∙ ap length lows in
@@ -117,9 +117,9 @@ returns-in_err-list-clause-limit g t c = λ e.
 
 pub returns-clause-ok : goal.returns-clause-ok
 returns-clause-ok g t c =
-    let low : map (λ (x : Bor g.row.R.Denot). g.R.Row.literals x.now) c.as_slice.result.now ≡ agreeing_rows c.args.place false (map (λ (x : Bor g.row.R.Denot). g.R.Row.literals x.now) c.args.rows.now) = rw c.as_slice.ensures.value c.in_ok-low_rows.ensures in
+    let low : map (λ (x : Bor g.row.R.Denot). g.R.Row.literals x.now) c.as_slice-lows.result.now ≡ agreeing_rows c.args.place false (map (λ (x : Bor g.row.R.Denot). g.R.Row.literals x.now) c.args.rows.now) = rw c.as_slice-lows.ensures.value c.in_ok-low_rows.ensures in
     let lows : map g.R.Row.literals c.in_ok-low.low.items ≡ (list_from (c.args.place + 1) (c.args.left - 1) c.args.phase (agreeing_rows c.args.place false (map (λ (x : Bor g.row.R.Denot). g.R.Row.literals x.now) c.args.rows.now))) = rw (← low) c.in_ok-low.ensures.ok in
-    let high : map (λ (x : Bor g.row.R.Denot). g.R.Row.literals x.now) c.as_slice-2.result.now ≡ agreeing_rows c.args.place true (map (λ (x : Bor g.row.R.Denot). g.R.Row.literals x.now) c.args.rows.now) = rw c.as_slice-2.ensures.value c.in_ok-high_rows.ensures in
+    let high : map (λ (x : Bor g.row.R.Denot). g.R.Row.literals x.now) c.as_slice-highs.result.now ≡ agreeing_rows c.args.place true (map (λ (x : Bor g.row.R.Denot). g.R.Row.literals x.now) c.args.rows.now) = rw c.as_slice-highs.ensures.value c.in_ok-high_rows.ensures in
     let highs : map g.R.Row.literals c.in_ok-high.high.items ≡ (list_from (c.args.place + 1) (c.args.left - 1) c.args.phase (agreeing_rows c.args.place true (map (λ (x : Bor g.row.R.Denot). g.R.Row.literals x.now) c.args.rows.now))) = rw (← high) c.in_ok-high.ensures.ok in
     let made : List (List (Option Bool)) = map g.R.Row.literals c.in_ok-list.list.items in
     joined_at c.args.width c.args.place c.args.left c.args.phase (map (λ (x : Bor g.row.R.Denot). g.R.Row.literals x.now) c.args.rows.now) (map g.R.Row.literals c.in_ok-list.list.items) c.requires.widths (omega arith) c.requires.places
@@ -127,9 +127,9 @@ returns-clause-ok g t c =
 
 pub returns-clause-within : goal.returns-clause-within
 returns-clause-within g t c =
-    let low : map (λ (x : Bor g.row.R.Denot). g.R.Row.literals x.now) c.as_slice.result.now ≡ agreeing_rows c.args.place false (map (λ (x : Bor g.row.R.Denot). g.R.Row.literals x.now) c.args.rows.now) = rw c.as_slice.ensures.value c.in_ok-low_rows.ensures in
+    let low : map (λ (x : Bor g.row.R.Denot). g.R.Row.literals x.now) c.as_slice-lows.result.now ≡ agreeing_rows c.args.place false (map (λ (x : Bor g.row.R.Denot). g.R.Row.literals x.now) c.args.rows.now) = rw c.as_slice-lows.ensures.value c.in_ok-low_rows.ensures in
     let lows : map g.R.Row.literals c.in_ok-low.low.items ≡ (list_from (c.args.place + 1) (c.args.left - 1) c.args.phase (agreeing_rows c.args.place false (map (λ (x : Bor g.row.R.Denot). g.R.Row.literals x.now) c.args.rows.now))) = rw (← low) c.in_ok-low.ensures.ok in
-    let high : map (λ (x : Bor g.row.R.Denot). g.R.Row.literals x.now) c.as_slice-2.result.now ≡ agreeing_rows c.args.place true (map (λ (x : Bor g.row.R.Denot). g.R.Row.literals x.now) c.args.rows.now) = rw c.as_slice-2.ensures.value c.in_ok-high_rows.ensures in
+    let high : map (λ (x : Bor g.row.R.Denot). g.R.Row.literals x.now) c.as_slice-highs.result.now ≡ agreeing_rows c.args.place true (map (λ (x : Bor g.row.R.Denot). g.R.Row.literals x.now) c.args.rows.now) = rw c.as_slice-highs.ensures.value c.in_ok-high_rows.ensures in
     let highs : map g.R.Row.literals c.in_ok-high.high.items ≡ (list_from (c.args.place + 1) (c.args.left - 1) c.args.phase (agreeing_rows c.args.place true (map (λ (x : Bor g.row.R.Denot). g.R.Row.literals x.now) c.args.rows.now))) = rw (← high) c.in_ok-high.ensures.ok in
     let whole : map g.R.Row.literals c.in_ok-list.list.items ≡ list_from c.args.place c.args.left c.args.phase (map (λ (x : Bor g.row.R.Denot). g.R.Row.literals x.now) c.args.rows.now) =
     joined_at c.args.width c.args.place c.args.left c.args.phase (map (λ (x : Bor g.row.R.Denot). g.R.Row.literals x.now) c.args.rows.now) (map g.R.Row.literals c.in_ok-list.list.items) c.requires.widths (omega arith) c.requires.places (rw (← lows, ← highs) c.in_ok-list.ensures.ok) in
