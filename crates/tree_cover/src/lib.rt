@@ -41,7 +41,7 @@ mod outlines;
 mod writing;
 
 pub use binding::Binding;
-pub use choice::{Choice, compare};
+pub use choice::Choice;
 pub use choices::Choices;
 pub use covering::best;
 pub use listing::{cells, library_patterns};
