@@ -61,25 +61,15 @@ fn folded_tables(alloc: Global, tables: Tables) -> Result<Tables, AllocError>
 fn circuit_with(draft: Draft, model_tables: Tables) -> Circuit
     ensures { result ≡ record (settled_circuit draft) { tables = model_tables } }
 {
-    let Draft {
-        name,
-        inputs,
-        outputs,
-        clocks,
-        timing,
-        latches,
-        tables,
-        ..
-    } = draft;
     Circuit {
-        name,
-        inputs,
-        outputs,
-        clocks,
-        timing,
-        latches,
+        name: draft.name,
+        inputs: draft.inputs,
+        outputs: draft.outputs,
+        clocks: draft.clocks,
+        timing: draft.timing,
+        latches: draft.latches,
         tables: model_tables,
-        dont_care: tables,
+        dont_care: draft.tables,
     }
 }
 
