@@ -5,10 +5,11 @@ use Rattle.std.proofs.lemmas.Result.{IfOk-weaker}
 use Rattle.func_core.specs.Trees.{Tree, Zero, One, Node, eval, IsReduced}
 use Rattle.func_core.proofs.Trees.{tree_eq-same, tree_eq-other, IsReduced-weaker}
 use Rattle.func_core.specs.Sizes.{tree_eq}
-use Rattle.func_core.specs.PlainTrees.{shape, bits}
+use Rattle.func_core.specs.Operations.{bits}
+use Rattle.func_core.specs.PlainTrees.{shape}
 use Rattle.func_core.specs.declared.diagram.Diagram.{Diagram}
-use Rattle.func_core.specs.declared.diagram.Operation.{Operation}
-use Rattle.func_core.specs.declared.diagram.Operation.TheVariants.{And, Or, Xor}
+use Rattle.func_core.specs.declared.operation.Operation.{Operation}
+use Rattle.func_core.specs.declared.operation.Operation.TheVariants.{And, Or, Xor}
 
 -- a tree takes one of two halves by a variable
 abbrev pub Splits : ℕ → Tree → Tree → Tree → Type 0

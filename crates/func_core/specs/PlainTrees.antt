@@ -1,13 +1,11 @@
 -- How `PlainFunctions` stores its trees. These words serve its private functions: a caller needs
 -- none of them, since each clause of the trait and of the laws is stated without them.
-use Rattle.std.specs.Prelude.{◌≡◌, ℕ, ◌<◌, ◌≤◌, Bool, ◌&&◌, ◌||◌, List, map, slice_index_or, length}
+use Rattle.std.specs.Prelude.{◌≡◌, ℕ, ◌<◌, ◌≤◌, ◌||◌, List, map, slice_index_or, length}
 use Rattle.std.specs.Set.{is_member}
 use Rattle.std.specs.List.{IsDistinct}
-use Rattle.func_core.specs.Trees.{Tree, Zero, One, Node, IsReduced, differ}
+use Rattle.func_core.specs.Trees.{Tree, Zero, One, Node, IsReduced}
 use Rattle.func_core.specs.Sizes.{tree_eq, size}
 use Rattle.func_core.specs.declared.diagram.Diagram.{Diagram, Zero as Zero_, One as One_, Branch'}
-use Rattle.func_core.specs.declared.diagram.Operation.{Operation}
-use Rattle.func_core.specs.declared.diagram.Operation.TheVariants.{And, Or, Xor}
 use Rattle.func_core.specs.declared.plain.PlainFunctions.{PlainFunctions}
 
 -- the plain tree that a tree in memory stands for
@@ -15,12 +13,6 @@ abbrev pub shape : Diagram → Tree
 shape Zero_ = Zero
 shape One_ = One
 shape (Branch' place p lo q hi) = Node place (shape lo) (shape hi)
-
--- the result of an operation on two bits
-abbrev pub bits : Operation → Bool → Bool → Bool
-bits And = ◌&&◌
-bits Or = ◌||◌
-bits Xor = differ
 
 -- the tree of a number: that at its index in the list
 abbrev pub plain_tree : PlainFunctions → ℕ → Tree

@@ -11,8 +11,10 @@ ghost use Rattle.std.specs.Set.{is_member};
 ghost use Rattle.func_core.specs.Trees.{eval, IsReduced};
 ghost use Rattle.func_core.specs.Sizes.{tree_eq, inner, size};
 ghost use Rattle.func_core.specs.Points.{is_constant_zero, path};
-ghost use Rattle.func_core.specs.PlainTrees.{shape, bits, Adds};
+ghost use Rattle.func_core.specs.Operations.{bits};
+ghost use Rattle.func_core.specs.PlainTrees.{shape, Adds};
 
+use crate::operation::Operation;
 use std::alloc::{AllocError, Global};
 
 /// A decision tree: a constant, or a variable with its subtrees for false and for true.
@@ -21,14 +23,6 @@ pub enum Diagram {
     Zero,
     One,
     Branch(usize, Box<Diagram>, Box<Diagram>),
-}
-
-/// An operation on two bits.
-#[derive(Clone, Copy)]
-pub enum Operation {
-    And,
-    Or,
-    Xor,
 }
 
 /// The result of an operation on two bits.

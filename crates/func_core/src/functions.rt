@@ -11,7 +11,9 @@ ghost use Rattle.func_core.specs.Trees.{Tree, Zero, eval, IsReduced, constant, v
 ghost use Rattle.func_core.specs.Sizes.{size};
 ghost use Rattle.func_core.specs.Points.{one_path};
 ghost use Rattle.func_core.specs.Numbers.{Means, IsBig, Stays, NoneStands};
+ghost use Rattle.func_core.specs.Operations.{operation_on};
 
+use crate::operation::Operation;
 use sis_base::Sequence;
 use std::alloc::AllocError;
 
@@ -69,6 +71,16 @@ pub trait Functions: Drop {
         ensures fits { result ≡ Err FuncFault.TooBig → ⊥ }
         ensures stays { Stays holds tree limit self.old self.new };
 
+    /// An operation on two functions.
+    fn operate(&mut self, operation: Operation, f: Func, g: Func) -> Result<Func, FuncFault>
+        requires f { holds self.old f.0 }
+        requires g { holds self.old g.0 }
+        ensures ok { IfOk result (λ h. Means holds tree limit self.new h.0 (operation_on operation
+            (eval (tree self.old f.0)) (eval (tree self.old g.0)))) }
+        ensures big { result ≡ Err FuncFault.TooBig → IsBig (limit self.old) (operation_on operation
+            (eval (tree self.old f.0)) (eval (tree self.old g.0))) }
+        ensures stays { Stays holds tree limit self.old self.new };
+
     /// The conjunction of two functions.
     fn and(&mut self, f: Func, g: Func) -> Result<Func, FuncFault>
         requires f { holds self.old f.0 }
@@ -77,7 +89,10 @@ pub trait Functions: Drop {
             (tree self.old f.0)) (eval (tree self.old g.0)))) }
         ensures big { result ≡ Err FuncFault.TooBig → IsBig (limit self.old) (conjunction (eval
             (tree self.old f.0)) (eval (tree self.old g.0))) }
-        ensures stays { Stays holds tree limit self.old self.new };
+        ensures stays { Stays holds tree limit self.old self.new }
+    {
+        self.operate(Operation::And, f, g)
+    }
 
     /// The disjunction of two functions.
     fn or(&mut self, f: Func, g: Func) -> Result<Func, FuncFault>
@@ -87,7 +102,10 @@ pub trait Functions: Drop {
             (tree self.old f.0)) (eval (tree self.old g.0)))) }
         ensures big { result ≡ Err FuncFault.TooBig → IsBig (limit self.old) (disjunction (eval
             (tree self.old f.0)) (eval (tree self.old g.0))) }
-        ensures stays { Stays holds tree limit self.old self.new };
+        ensures stays { Stays holds tree limit self.old self.new }
+    {
+        self.operate(Operation::Or, f, g)
+    }
 
     /// The exclusive or of two functions.
     fn xor(&mut self, f: Func, g: Func) -> Result<Func, FuncFault>
@@ -97,7 +115,10 @@ pub trait Functions: Drop {
             (tree self.old f.0)) (eval (tree self.old g.0)))) }
         ensures big { result ≡ Err FuncFault.TooBig → IsBig (limit self.old) (exclusive_or (eval
             (tree self.old f.0)) (eval (tree self.old g.0))) }
-        ensures stays { Stays holds tree limit self.old self.new };
+        ensures stays { Stays holds tree limit self.old self.new }
+    {
+        self.operate(Operation::Xor, f, g)
+    }
 
     /// Whether a function is false everywhere; allocates nothing.
     fn is_zero(&self, f: Func) -> bool

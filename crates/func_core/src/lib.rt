@@ -21,7 +21,9 @@
 mod diagram;
 mod functions;
 pub mod laws;
+mod operation;
 mod plain;
 
 pub use functions::{Func, FuncFault, Functions};
+pub use operation::Operation;
 pub use plain::PlainFunctions;

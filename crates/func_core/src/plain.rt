@@ -7,8 +7,9 @@
 
 ghost use Rattle.std.specs.Prelude.{◌≡◌, ℕ, ◌<◌, ◌≤◌, IfOk};
 
-use crate::diagram::{self, Diagram, Operation};
+use crate::diagram::{self, Diagram};
 use crate::functions::{Func, FuncFault, Functions};
+use crate::operation::Operation;
 use sis_base::Sequence;
 use std::alloc::{AllocError, Global};
 
@@ -25,8 +26,8 @@ pub struct PlainFunctions {
 impl PlainFunctions {
     ghost use Rattle.func_core.specs.Trees.{eval, IsReduced};
     ghost use Rattle.func_core.specs.Sizes.{size};
-    ghost use Rattle.func_core.specs.Numbers.{Means, IsBig, Stays, NoneStands};
-    ghost use Rattle.func_core.specs.PlainTrees.{shape, bits, plain_tree, plain_limit, PlainHolds};
+    ghost use Rattle.func_core.specs.Numbers.{Means, Stays, NoneStands};
+    ghost use Rattle.func_core.specs.PlainTrees.{shape, plain_tree, plain_limit, PlainHolds};
 
     /// An object without valid numbers, for trees of a size up to the limit, which is at least 1;
     /// allocates nothing.
@@ -58,23 +59,6 @@ impl PlainFunctions {
         self.diagrams.push(made).map_err(AllocError::from)?;
         Ok(Func(number))
     }
-
-    /// Keeps the tree of an operation on two functions.
-    fn operate(&mut self, operation: Operation, f: Func, g: Func) -> Result<Func, FuncFault>
-        requires f { PlainHolds self.old f.0 }
-        requires g { PlainHolds self.old g.0 }
-        ensures ok { IfOk result (λ h. Means PlainHolds plain_tree plain_limit self.new h.0
-            (λ point. bits operation (eval (plain_tree self.old f.0) point) (eval
-            (plain_tree self.old g.0) point))) }
-        ensures big { result ≡ Err FuncFault.TooBig → IsBig self.old.limit (λ point. bits operation
-            (eval (plain_tree self.old f.0) point) (eval (plain_tree self.old g.0) point)) }
-        ensures stays { Stays PlainHolds plain_tree plain_limit self.old self.new }
-    {
-        let left = &self.diagrams[f.0];
-        let right = &self.diagrams[g.0];
-        let made = diagram::combine(self.alloc, operation, left, right)?;
-        self.keep(made)
-    }
 }
 
 impl Functions for PlainFunctions {
@@ -100,16 +84,11 @@ impl Functions for PlainFunctions {
         self.keep(made)
     }
 
-    fn and(&mut self, f: Func, g: Func) -> Result<Func, FuncFault> {
-        self.operate(Operation::And, f, g)
-    }
-
-    fn or(&mut self, f: Func, g: Func) -> Result<Func, FuncFault> {
-        self.operate(Operation::Or, f, g)
-    }
-
-    fn xor(&mut self, f: Func, g: Func) -> Result<Func, FuncFault> {
-        self.operate(Operation::Xor, f, g)
+    fn operate(&mut self, operation: Operation, f: Func, g: Func) -> Result<Func, FuncFault> {
+        let left = &self.diagrams[f.0];
+        let right = &self.diagrams[g.0];
+        let made = diagram::combine(self.alloc, operation, left, right)?;
+        self.keep(made)
     }
 
     fn is_zero(&self, f: Func) -> bool {

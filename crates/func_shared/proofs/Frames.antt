@@ -8,7 +8,7 @@ use Rattle.func_core.specs.Sizes.{tree_eq, inner}
 use Rattle.func_shared.specs.Vertices.{tree_at, IsNumber, Has, IsTable, Grows}
 use Rattle.func_shared.specs.Merging.{joined, merged, SplitsAt}
 use Rattle.func_shared.specs.Answers.{AreNumbers, made, IsAnswer, AreAnswers, Joins, pair_of, IsFrame, IsStack}
-use Rattle.func_shared.specs.declared.operation.Operation.{Operation}
+use Rattle.func_core.specs.declared.operation.Operation.{Operation}
 use Rattle.func_shared.specs.declared.vertex.Vertex.{Vertex}
 use Rattle.func_shared.specs.declared.cache.Pair.{Pair}
 use Rattle.func_shared.specs.declared.cache.Answer.{Answer}

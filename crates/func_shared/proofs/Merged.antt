@@ -5,9 +5,10 @@ use Rattle.func_core.specs.Trees.{Tree, Zero, One, Node, eval, IsReduced}
 use Rattle.func_core.specs.Sizes.{tree_eq}
 use Rattle.func_core.proofs.Trees.{tree_eq-same, tree_eq-other, IsReduced-weaker}
 use Rattle.func_core.proofs.Unique.{one_tree}
-use Rattle.func_shared.specs.Merging.{bits, joined, leaf, merged_bit, merged_node, merged, SplitsAt}
-use Rattle.func_shared.specs.declared.operation.Operation.{Operation}
-use Rattle.func_shared.specs.declared.operation.Operation.TheVariants.{And, Or, Xor}
+use Rattle.func_core.specs.Operations.{bits}
+use Rattle.func_shared.specs.Merging.{joined, leaf, merged_bit, merged_node, merged, SplitsAt}
+use Rattle.func_core.specs.declared.operation.Operation.{Operation}
+use Rattle.func_core.specs.declared.operation.Operation.TheVariants.{And, Or, Xor}
 
 -- the operations commute
 pub bits_turn : (operation : Operation) (a b : Bool) → bits operation a b ≡ bits operation b a

@@ -5,7 +5,7 @@ use Rattle.std.proofs.lemmas.List.Elements.{All-same, All-append, All-take, All-
 use Rattle.func_core.specs.Trees.{Tree, Zero}
 use Rattle.func_shared.specs.Merging.{merged, merged_bit}
 use Rattle.func_shared.specs.Answers.{IsAnswer, AreAnswers}
-use Rattle.func_shared.specs.declared.operation.Operation.TheVariants.{And}
+use Rattle.func_core.specs.declared.operation.Operation.TheVariants.{And}
 use Rattle.func_shared.specs.declared.vertex.Vertex.{Vertex}
 use Rattle.func_shared.specs.declared.cache.Answer.{Answer}
 use Rattle.func_shared.specs.declared.cache.Answers.{Answers}

@@ -8,12 +8,13 @@ use Rattle.func_core.specs.Sizes.{size}
 use Rattle.func_core.specs.Numbers.{Means, IsBig, Stays}
 use Rattle.func_core.proofs.Meanings.{own-tree, complement-size}
 use Rattle.func_core.proofs.Steps.{eval_variable, reduced_variable}
-use Rattle.func_shared.specs.declared.operation.Operation.{Operation}
-use Rattle.func_shared.specs.declared.operation.Operation.TheVariants.{Xor}
+use Rattle.func_core.specs.declared.operation.Operation.{Operation}
+use Rattle.func_core.specs.declared.operation.Operation.TheVariants.{Xor}
 use Rattle.func_shared.specs.declared.vertex.Vertex.{Vertex}
 use Rattle.func_shared.specs.declared.shared.SharedFunctions.{SharedFunctions}
 use Rattle.func_shared.specs.Vertices.{tree_at, IsNumber, IsTable, Has, Grows}
-use Rattle.func_shared.specs.Merging.{bits, leaf, merged}
+use Rattle.func_core.specs.Operations.{bits}
+use Rattle.func_shared.specs.Merging.{leaf, merged}
 use Rattle.func_shared.specs.Shares.{shared_tree, shared_limit, SharedHolds, operated}
 use Rattle.func_shared.proofs.Numbered.{tree_at-zero, tree_at-one}
 use Rattle.func_shared.proofs.Growing.{kept}

@@ -4,8 +4,8 @@ use Rattle.func_core.specs.Trees.{Tree, Zero, One}
 use Rattle.func_shared.specs.Vertices.{tree_at, Has, IsTable}
 use Rattle.func_shared.specs.Merging.{merged}
 use Rattle.func_shared.specs.Answers.{made}
-use Rattle.func_shared.specs.declared.operation.Operation.{Operation}
-use Rattle.func_shared.specs.declared.operation.Operation.TheVariants.{And, Or, Xor}
+use Rattle.func_core.specs.declared.operation.Operation.{Operation}
+use Rattle.func_core.specs.declared.operation.Operation.TheVariants.{And, Or, Xor}
 use Rattle.func_shared.specs.declared.vertex.Vertex.{Vertex}
 use Rattle.func_shared.specs.declared.cache.Pair.{Pair}
 use Rattle.func_shared.proofs.Merged.{merged_and_zero, merged_and_one, merged_or_zero, merged_or_one, merged_xor_zero, merged_and_same, merged_or_same, merged_xor_same}

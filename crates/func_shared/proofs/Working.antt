@@ -5,7 +5,7 @@ use Rattle.func_core.specs.Trees.{Tree}
 use Rattle.func_core.specs.Sizes.{size}
 use Rattle.func_shared.specs.Vertices.{Has, IsTable, Grows, AddsWithin}
 use Rattle.func_shared.specs.Answers.{made, AreNumbers, AreAnswers, pair_of, IsFrame, IsStack, turn_tree, IsTurn, turn_cost, frame_cost, stack_cost}
-use Rattle.func_shared.specs.declared.operation.Operation.{Operation}
+use Rattle.func_core.specs.declared.operation.Operation.{Operation}
 use Rattle.func_shared.specs.declared.vertex.Vertex.{Vertex}
 use Rattle.func_shared.specs.declared.cache.Pair.{Pair}
 use Rattle.func_shared.specs.declared.cache.Answers.{Answers}

@@ -5,7 +5,7 @@ use Rattle.std.specs.Prelude.{◌≡◌, ℕ, zero, suc, ◌+◌, ◌*◌, ◌<�
 use Rattle.func_core.specs.Trees.{Tree, IsReduced}
 use Rattle.func_shared.specs.Vertices.{tree_at, IsNumber, Has}
 use Rattle.func_shared.specs.Merging.{joined, merged, SplitsAt}
-use Rattle.func_shared.specs.declared.operation.Operation.{Operation}
+use Rattle.func_core.specs.declared.operation.Operation.{Operation}
 use Rattle.func_shared.specs.declared.vertex.Vertex.{Vertex}
 use Rattle.func_shared.specs.declared.cache.Pair.{Pair}
 use Rattle.func_shared.specs.declared.cache.Answer.{Answer}

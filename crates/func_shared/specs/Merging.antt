@@ -1,17 +1,11 @@
 -- The result of an operation on bits, applied to trees. Source: R. E. Bryant, "Graph-Based
 -- Algorithms for Boolean Function Manipulation", IEEE Transactions on Computers C-35 (1986),
 -- "apply" and the Shannon expansion.
-use Rattle.std.specs.Prelude.{◌≡◌, ℕ, suc, Bool, true, false, ◌&&◌, ◌||◌, if◌then◌else◌, nat_lt}
-use Rattle.func_core.specs.Trees.{Tree, Zero, One, Node, eval, IsReduced, differ}
+use Rattle.std.specs.Prelude.{◌≡◌, ℕ, suc, Bool, true, false, if◌then◌else◌, nat_lt}
+use Rattle.func_core.specs.Trees.{Tree, Zero, One, Node, eval, IsReduced}
 use Rattle.func_core.specs.Sizes.{tree_eq}
-use Rattle.func_shared.specs.declared.operation.Operation.{Operation}
-use Rattle.func_shared.specs.declared.operation.Operation.TheVariants.{And, Or, Xor}
-
--- the result of an operation on two bits
-abbrev pub bits : Operation → Bool → Bool → Bool
-bits And = ◌&&◌
-bits Or = ◌||◌
-bits Xor = differ
+use Rattle.func_core.specs.Operations.{bits}
+use Rattle.func_core.specs.declared.operation.Operation.{Operation}
 
 -- a node, or its half if both halves are equal
 unfoldable pub joined : ℕ → Tree → Tree → Tree

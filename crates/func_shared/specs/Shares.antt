@@ -4,8 +4,8 @@
 use Rattle.std.specs.Prelude.{ℕ, ◌<◌}
 use Rattle.func_core.specs.Trees.{BooleanFunction, Tree, eval, IsReduced}
 use Rattle.func_shared.specs.Vertices.{tree_at}
-use Rattle.func_shared.specs.Merging.{bits}
-use Rattle.func_shared.specs.declared.operation.Operation.{Operation}
+use Rattle.func_core.specs.Operations.{operation_on}
+use Rattle.func_core.specs.declared.operation.Operation.{Operation}
 use Rattle.func_shared.specs.declared.shared.SharedFunctions.{SharedFunctions}
 
 -- the tree of a number
@@ -22,5 +22,5 @@ shared_limit functions = functions.limit
 
 -- the operation on the functions of two numbers
 abbrev pub operated : SharedFunctions → Operation → ℕ → ℕ → BooleanFunction
-operated functions operation f g = λ point.
-    bits operation (eval (shared_tree functions f) point) (eval (shared_tree functions g) point)
+operated functions operation f g =
+    operation_on operation (eval (shared_tree functions f)) (eval (shared_tree functions g))

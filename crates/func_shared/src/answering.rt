@@ -16,10 +16,9 @@ ghost use Rattle.func_shared.specs.Merging.{merged, SplitsAt};
 ghost use Rattle.func_shared.specs.Answers.{made, AreNumbers, AreAnswers, IsOpened, pair_of, IsFrame, IsStack, turn_tree, IsTurn, turn_cost, frame_cost, stack_cost};
 
 use crate::cache::{Answers, Pair};
-use crate::operation::Operation;
 use crate::table::Table;
 use crate::vertex::Vertex;
-use func_core::FuncFault;
+use func_core::{FuncFault, Operation};
 use std::alloc::{AllocError, Global};
 
 /// The halves of two numbers at the higher of their variables.

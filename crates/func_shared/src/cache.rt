@@ -11,7 +11,7 @@ ghost use Rattle.func_shared.specs.declared.vertex.Vertex.{Vertex};
 ghost use Rattle.func_shared.specs.Vertices.{Has};
 ghost use Rattle.func_shared.specs.Answers.{made, AreNumbers, IsAnswer, AreAnswers, StayAnswers};
 
-use crate::operation::Operation;
+use func_core::Operation;
 use std::alloc::Global;
 
 /// The number of answers for which there is room at first, and at most.

@@ -14,7 +14,6 @@ mod answering;
 mod cache;
 pub mod laws;
 mod nodes;
-mod operation;
 mod shared;
 mod table;
 mod vertex;

@@ -15,10 +15,9 @@ ghost use Rattle.func_shared.specs.Answers.{made};
 ghost use Rattle.func_shared.specs.Fitting.{AllFit};
 
 use crate::cache::{Answers, Pair};
-use crate::operation::Operation;
 use crate::table::Table;
 use crate::{answering, walking};
-use func_core::FuncFault;
+use func_core::{FuncFault, Operation};
 use std::alloc::{AllocError, Global};
 use std::marker::Model;
 

@@ -12,8 +12,7 @@ ghost use Rattle.func_shared.specs.Vertices.{AreDifferent};
 
 use crate::cache::Pair;
 use crate::nodes::Nodes;
-use crate::operation::Operation;
-use func_core::{Func, FuncFault, Functions};
+use func_core::{Func, FuncFault, Functions, Operation};
 use sis_base::Sequence;
 use std::alloc::{AllocError, Global};
 
@@ -76,24 +75,6 @@ impl SharedFunctions {
         self.standing = self.standing.max(number + 1);
         Func(number)
     }
-
-    /// The number of an operation on two functions.
-    fn operate(&mut self, operation: Operation, f: Func, g: Func) -> Result<Func, FuncFault>
-        requires f { SharedHolds self.old f.0 }
-        requires g { SharedHolds self.old g.0 }
-        ensures ok { IfOk result (λ h. Means SharedHolds shared_tree shared_limit self.new h.0
-            (operated self.old operation f.0 g.0)) }
-        ensures big { result ≡ Err FuncFault.TooBig
-            → IsBig self.old.limit (operated self.old operation f.0 g.0) }
-        ensures stays { Stays SharedHolds shared_tree shared_limit self.old self.new }
-    {
-        let left = self.number_of(f);
-        let right = self.number_of(g);
-        let number = self
-            .nodes
-            .operate(operation, Pair { left, right }, self.limit)?;
-        Ok(self.stand(number))
-    }
 }
 
 impl Functions for SharedFunctions {
@@ -126,16 +107,13 @@ impl Functions for SharedFunctions {
         Ok(self.stand(number))
     }
 
-    fn and(&mut self, f: Func, g: Func) -> Result<Func, FuncFault> {
-        self.operate(Operation::And, f, g)
-    }
-
-    fn or(&mut self, f: Func, g: Func) -> Result<Func, FuncFault> {
-        self.operate(Operation::Or, f, g)
-    }
-
-    fn xor(&mut self, f: Func, g: Func) -> Result<Func, FuncFault> {
-        self.operate(Operation::Xor, f, g)
+    fn operate(&mut self, operation: Operation, f: Func, g: Func) -> Result<Func, FuncFault> {
+        let left = self.number_of(f);
+        let right = self.number_of(g);
+        let number = self
+            .nodes
+            .operate(operation, Pair { left, right }, self.limit)?;
+        Ok(self.stand(number))
     }
 
     fn is_zero(&self, f: Func) -> bool {

@@ -1,6 +1,7 @@
 use Rattle.std.proofs.Common.{◌≡◌, ℕ, Bool, false, true, ap, arith}
 use Rattle.func_core.specs.Trees.{Node, eval}
-use Rattle.func_core.specs.PlainTrees.{shape, bits}
+use Rattle.func_core.specs.Operations.{bits}
+use Rattle.func_core.specs.PlainTrees.{shape}
 use Rattle.func_core.proofs.Steps.{eval-Zero, eval-One, node-at, above-Node, made-first, made-second, made-one, made-both}
 use Rattle.func_core.proofs.Steps.{made-reduced-left, made-reduced-right, made-reduced-both}
 use Rattle.func_core.proofs.diagram.+combine.Goals as goal

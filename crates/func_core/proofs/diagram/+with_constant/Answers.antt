@@ -1,6 +1,7 @@
 use Rattle.std.proofs.Common.{◌≡◌, ℕ, Bool, ap, sym, ◌∙◌}
 use Rattle.func_core.specs.Trees.{Node}
-use Rattle.func_core.specs.PlainTrees.{shape, bits}
+use Rattle.func_core.specs.Operations.{bits}
+use Rattle.func_core.specs.PlainTrees.{shape}
 use Rattle.func_core.proofs.Steps.{eval-Zero, eval-One, node-at, made-one, made-reduced-alone}
 use Rattle.func_core.proofs.diagram.+with_constant.Goals as goal
 

@@ -1,7 +1,7 @@
 use Rattle.std.proofs.Common.{arith, refl}
 use Rattle.std.proofs.lemmas.Result.{err_from_is_err_and}
 use Rattle.func_shared.proofs.Sharing.{shared_stays, operation_means, operation_big}
-use Rattle.func_shared.proofs.shared.SharedFunctions.operate.Goals as goal
+use Rattle.func_shared.proofs.shared.SharedFunctionsFunctions.operate.Goals as goal
 
 pub returns-in_err-number-clause-big : goal.returns-in_err-number-clause-big
 returns-in_err-number-clause-big c h =
