@@ -1,13 +1,14 @@
 -- The first key of an order that passes a test is the best of those that pass.
-use Rattle.std.proofs.Common.{◌≡◌, ◌⊎◌, inl, inr, List, [], ◌∷◌, ◌++◌, map, Option, Some, Bor, Bool, true, false, ◌||◌, Ordering, Less, Equal, Greater, refl, sym, ap, ◌∙◌, subst, arith}
+use Rattle.std.proofs.Common.{◌≡◌, ◌⊎◌, inl, inr, List, [], ◌∷◌, ◌++◌, map, Option, Some, Bor, Ordering, Less, Equal, Greater, refl, sym, ap, ◌∙◌, subst, arith}
 use Rattle.std.specs.Cmp.{IsTotalOrder}
-use Rattle.std.specs.List.{list_any, AllByRecursion, Contains}
+use Rattle.std.specs.Iterator.{Yields}
+use Rattle.std.specs.List.{AllByRecursion, Contains}
 use Rattle.std.specs.List.Sorted.{IsStrictlySortedBy}
-use Rattle.std.specs.Map.Iter.{deref}
+use Rattle.std.specs.Map.Iter.{deref, TakesFirst}
 use Rattle.std.specs.Ordering.{ordering_then, ordering_reverse}
-use Rattle.std.proofs.lemmas.Bool.{false≢true}
 use Rattle.std.proofs.lemmas.Cmp.{tied_itself}
 use Rattle.std.proofs.lemmas.List.Elements.{All-contains, All-from_recursion, Contains-append_cases, Contains-append_right, Contains-push_cases}
+use Rattle.std.proofs.lemmas.Map.Iter.{rest_more, rest_so_far}
 use Rattle.net_queue.specs.Queue.{ranked_cmp, AreRanked, IsBest}
 
 -- ---- members of lists
@@ -44,10 +45,10 @@ turned {X} {cmp} total one other h k =
 
 module _ {K R : Type 0} {rank_cmp : R → R → Ordering} {key_cmp : K → K → Ordering} (rank_total : IsTotalOrder rank_cmp) (key_total : IsTotalOrder key_cmp) (ranks : K → Option R) (Passes : K → Type 0) where
   -- none of some keys passes
-  abbrev pub Fail : List (R × K) → Type 0
+  abbrev Fail : List (R × K) → Type 0
   Fail ranked = AllByRecursion (λ (one : R × K). Passes one.1 → ⊥) ranked
 
-  pub none_best : (ranked : List (R × K)) → AreRanked rank_cmp key_cmp ranks ranked → Fail ranked → (key : K) (rank : R) → Passes key → ranks key ≡ Some rank → ⊥
+  none_best : (ranked : List (R × K)) → AreRanked rank_cmp key_cmp ranks ranked → Fail ranked → (key : K) (rank : R) → Passes key → ranks key ≡ Some rank → ⊥
   none_best ranked are fail key rank passes has = all_at (λ (one : R × K). Passes one.1 → ⊥) ranked (rank, key) fail (are.all rank key has) passes
 
   module _ (before : List (R × K)) (found : R × K) (after : List (R × K)) (are : AreRanked rank_cmp key_cmp ranks (before ++ found ∷ after)) (fail : Fail before) where
@@ -82,7 +83,7 @@ module _ {K R : Type 0} {rank_cmp : R → R → Ordering} {key_cmp : K → K →
           ]
         ]
 
-    pub first_best : IsBest rank_cmp key_cmp ranks Passes found.1
+    first_best : IsBest rank_cmp key_cmp ranks Passes found.1
     first_best = record {
       rank = found.0;
       here = are.only found.0 found.1 (middle before found after);
@@ -103,13 +104,8 @@ module _ {K R : Type 0} {rank_cmp : R → R → Ordering} {key_cmp : K → K →
       → AllByRecursion (λ (one : Bor (R × K)). Passes one.now.1 → ⊥) yielded → (key : K) (rank : R) → Passes key → ranks key ≡ Some rank → ⊥
   end_none ranked are yielded whole fail = none_best (map deref yielded) (subst (AreRanked rank_cmp key_cmp ranks) whole are) (fail_all yielded fail)
 
--- ---- tests
-
-pub any_fail : {K R : Type 0} (passes : K → Bool) (ranked : List (R × K)) → list_any (λ (one : R × K). passes one.1) ranked ≡ false → AllByRecursion (λ (one : R × K). passes one.1 ≡ true → ⊥) ranked
-any_fail passes [] none = tt
-any_fail passes (one ∷ ranked) none = cases (passes one.1) refl none (any_fail passes ranked)
-  where
-    cases : (b : Bool) → passes one.1 ≡ b → (b || list_any (λ one. passes one.1) ranked) ≡ false → (list_any (λ one. passes one.1) ranked ≡ false → AllByRecursion (λ one. passes one.1 ≡ true → ⊥) ranked)
-        → (passes one.1 ≡ true → ⊥) × AllByRecursion (λ one. passes one.1 ≡ true → ⊥) ranked
-    cases true e h rest = absurd (false≢true (sym h))
-    cases false e h rest = ((λ k. false≢true (sym e ∙ k)), rest h)
+-- the pairs that a loop over an order has yielded, the next one, and those after it
+pub order_split : {X : Type 0} (ranked start left rest : List X) (yielded : List (Bor X)) (next : Option (Bor X)) (one : Bor X) → start ≡ ranked → Yields (TakesFirst deref) start yielded left → next ≡ Some one
+    → TakesFirst deref left next rest → ranked ≡ map deref yielded ++ one.now ∷ rest
+order_split ranked start left rest yielded next one begins yields is takes =
+    sym begins ∙ rest_so_far deref yielded start left yields ∙ ap (λ tail. map deref yielded ++ tail) (rest_more deref left rest next one is takes)

@@ -7,12 +7,12 @@
 //!
 //! Source: Cormen, Leiserson, Rivest and Stein, "Introduction to Algorithms", section 6.5 (priority
 //! queues whose keys change); the hash map next to the ordered set is the project's own. Contracts
-//! see a queue as the list of its keys and values (`specs/Queue.antt`); `laws` says which key is
-//! best.
+//! see a queue as the list of its keys and values (`specs/Queue.antt`); `specs/Greatest.antt` has
+//! the ranks of queues in which the greatest number is first. In a loop over `order` the first key
+//! that passes a test is the best of those that pass (`proofs/Best.antt`).
 #![tactic(auto)]
 
 mod changing;
-pub mod laws;
 mod queue;
 mod ranking;
 
