@@ -4,10 +4,11 @@ use Rattle.std.specs.List.{AllByRecursion, sum_by}
 use Rattle.std.specs.declared.cmp.Reverse.{Reverse}
 use Rattle.std.proofs.lemmas.Cmp.{ranked}
 use Rattle.std.proofs.lemmas.List.Sums.{sum_by-cons}
+use Rattle.net_queue.specs.Greatest.{reversed, greatest_cmp}
 use Rattle.net_queue.specs.Queue.{value_in, rank_in, IsBest}
 use Rattle.net_gains.specs.CodedGains.{lists_cmp, gains as gains_of}
 use Rattle.net_gains.specs.Divisors.{cover_of, divisor_cmp}
-use Rattle.net_gains.specs.Orders.{divisor_eq, saving_cmp}
+use Rattle.net_gains.specs.Orders.{divisor_eq}
 use Rattle.net_gains.specs.Totals.{total_of, total_at, rank_of}
 use Rattle.net_gains.specs.declared.divisor.Divisor.{Divisor}
 use Rattle.net_candidates.specs.Candidates.{literals_in}
@@ -124,7 +125,7 @@ module _ (names : List (List ℕ)) (rising : AreRising names) (counted : Counted
   record IsSaving (cover : NamedCover) : Type 0 where
     divisor : Divisor
     are : coded names cover ≡ cover_of divisor
-    has : ranks divisor ≡ Some (record { 0 = total kept cover - literals_in cover })
+    has : ranks divisor ≡ Some (reversed (total kept cover - literals_in cover))
 
   saving : (cover : NamedCover) → Saves kept cover → IsSaving cover
   saving cover saves =
@@ -137,16 +138,16 @@ module _ (names : List (List ℕ)) (rising : AreRising names) (counted : Counted
         divisor = divisor;
         are = are;
         has = rank_here divisor (value_in divisor_eq counted.totals divisor) (omega (arith, saves, total_here, own_here))
-            ∙ ap₂ (λ (m n : ℕ). let rank : Reverse ℕ = record { 0 = m - n } in Some rank) total_here own_here;
+            ∙ ap₂ (λ (m n : ℕ). Some (reversed (m - n))) total_here own_here;
       }
 
   passes_at : (cover : NamedCover) (saves : Saves kept cover) → Passes cover → PassesAt (saving cover saves).divisor
   passes_at cover saves passes = (cover, record { known = known_cover names cover (known_of cover saves); are = (saving cover saves).are; passes = passes })
 
   pub none_passes : ((divisor : Divisor) (rank : Reverse ℕ) → PassesAt divisor → ranks divisor ≡ Some rank → ⊥) → (cover : NamedCover) → Saves kept cover → Passes cover → ⊥
-  none_passes none cover saves passes = none (saving cover saves).divisor (record { 0 = total kept cover - literals_in cover }) (passes_at cover saves passes) (saving cover saves).has
+  none_passes none cover saves passes = none (saving cover saves).divisor (reversed (total kept cover - literals_in cover)) (passes_at cover saves passes) (saving cover saves).has
 
-  module _ (divisor : Divisor) (best : IsBest saving_cmp divisor_cmp ranks PassesAt divisor) (cover : NamedCover) (does : DoesPass Passes names (cover_of divisor) cover) where
+  module _ (divisor : Divisor) (best : IsBest greatest_cmp divisor_cmp ranks PassesAt divisor) (cover : NamedCover) (does : DoesPass Passes names (cover_of divisor) cover) where
     known_here : KnownCover names cover
     known_here = cover_known names cover does.known
 
@@ -168,7 +169,7 @@ module _ (names : List (List ℕ)) (rising : AreRising names) (counted : Counted
         cases : (o : Ordering) → o ≡ nat_cmp (total kept cover - literals_in cover) (total kept other - literals_in other) → total kept other + literals_in cover ≤ total kept cover + literals_in other
         cases Less e =
             absurd
-            (best.no_lesser (saving other saves).divisor (record { 0 = total kept other - literals_in other }) (passes_at other saves passes) (saving other saves).has
+            (best.no_lesser (saving other saves).divisor (reversed (total kept other - literals_in other)) (passes_at other saves passes) (saving other saves).has
             (ap (λ (n : ℕ). nat_cmp n (total kept other - literals_in other)) (sym rank_is) ∙ sym e))
         cases Equal e = let same = ranked (total kept cover - literals_in cover) (total kept other - literals_in other) Equal e in omega (arith, same, saves, saves_here)
         cases Greater e = let more = ranked (total kept cover - literals_in cover) (total kept other - literals_in other) Greater e in omega (arith, more, saves, saves_here)
@@ -177,7 +178,7 @@ module _ (names : List (List ℕ)) (rising : AreRising names) (counted : Counted
     first_here other saves passes equal less =
         let level : total kept other - literals_in other ≡ best.rank.0 = omega (arith, equal, saves, saves_here, rank_is) in
         best.no_earlier (saving other saves).divisor (passes_at other saves passes)
-        ((saving other saves).has ∙ ap (λ (n : ℕ). let rank : Reverse ℕ = record { 0 = n } in Some rank) level)
+        ((saving other saves).has ∙ ap (λ (n : ℕ). Some (reversed n)) level)
         (sym (covers_cmp (saving other saves).divisor.first (saving other saves).divisor.second divisor.first divisor.second)
         ∙ (ap₂ lists_cmp (sym (saving other saves).are) (sym does.are) ∙ ((covers_keep names rising).at other cover (known_of other saves) known_here ∙ less)))
 

@@ -6,6 +6,7 @@ use Rattle.std.specs.Prelude.{unwrap_or}
 use Rattle.std.specs.declared.cmp.Reverse.{Reverse}
 use Rattle.std.proofs.lemmas.Bool.{false≢true, lt-ltb}
 use Rattle.std.proofs.lemmas.Option.{none-some, same_Some}
+use Rattle.net_queue.specs.Greatest.{reversed}
 use Rattle.net_candidates.specs.Candidates.{literals_in}
 use Rattle.net_gains.specs.Divisors.{cover_with, cover_of, divisor_cmp}
 use Rattle.net_gains.specs.CodedGains.{numbers_cmp, lists_cmp}
@@ -44,17 +45,17 @@ covers_cmp a (n ∷ b) c (m ∷ d) = ap (ordering_then (numbers_cmp a c)) (ends 
 
 -- the rank of a total that is more than the literals, and the total of a rank
 pub rank_here : (divisor : Divisor) (known : Option ℕ) → literals_in (cover_of divisor) < unwrap_or known 0
-    → option_map_or (rank_of divisor) known None ≡ Some (record { 0 = unwrap_or known 0 - literals_in (cover_of divisor) })
+    → option_map_or (rank_of divisor) known None ≡ Some (reversed (unwrap_or known 0 - literals_in (cover_of divisor)))
 rank_here divisor None less = absurd (omega (arith, less))
 rank_here divisor (Some total) less =
-    ap (λ (b : Bool). cond {A = Option (Reverse ℕ)} b (Some (record { 0 = total - literals_in (cover_of divisor) })) None) (lt-ltb (literals_in (cover_of divisor)) total less)
+    ap (λ (b : Bool). cond {A = Option (Reverse ℕ)} b (Some (reversed (total - literals_in (cover_of divisor)))) None) (lt-ltb (literals_in (cover_of divisor)) total less)
 
 pub rank_told : (divisor : Divisor) (known : Option ℕ) (rank : Reverse ℕ) → option_map_or (rank_of divisor) known None ≡ Some rank
     → (literals_in (cover_of divisor) < unwrap_or known 0) × (unwrap_or known 0 - literals_in (cover_of divisor) ≡ rank.0)
 rank_told divisor None rank h = absurd (none-some rank h)
 rank_told divisor (Some total) rank h = cases (ltb (literals_in (cover_of divisor)) total) refl h
   where
-    cases : (b : Bool) → ltb (literals_in (cover_of divisor)) total ≡ b → cond {A = Option (Reverse ℕ)} b (Some (record { 0 = total - literals_in (cover_of divisor) })) None ≡ Some rank
+    cases : (b : Bool) → ltb (literals_in (cover_of divisor)) total ≡ b → cond {A = Option (Reverse ℕ)} b (Some (reversed (total - literals_in (cover_of divisor)))) None ≡ Some rank
         → (literals_in (cover_of divisor) < total) × (total - literals_in (cover_of divisor) ≡ rank.0)
-    cases true e k = (ltb-true (literals_in (cover_of divisor)) total e, ap (λ (one : Reverse ℕ). one.0) (same_Some (record { 0 = total - literals_in (cover_of divisor) }) rank k))
+    cases true e k = (ltb-true (literals_in (cover_of divisor)) total e, ap (λ (one : Reverse ℕ). one.0) (same_Some (reversed (total - literals_in (cover_of divisor))) rank k))
     cases false e k = absurd (none-some rank k)

@@ -1,12 +1,10 @@
--- The laws of the orders of divisors and of their savings. No public clause needs them.
+-- The laws of the order of divisors. No public clause needs them.
 use Rattle.std.specs.Prelude.{◌≡◌, ℕ, ◌&&◌, Bool, List, nat_eq}
-use Rattle.std.proofs.Common.{sym, ap}
-use Rattle.std.specs.Cmp.{IsTotalOrder, IsPartialOrder, IsEquivalence, IsPartialEquivalence, po, on_total, back_total, nat_cmp_total, then_total, both_tied, on_equiv, and_equiv, nat_eq_equiv, partial_equiv_from_equiv}
+use Rattle.std.proofs.Common.{ap}
+use Rattle.std.specs.Cmp.{IsTotalOrder, IsPartialOrder, IsEquivalence, IsPartialEquivalence, po, on_total, then_total, both_tied, on_equiv, and_equiv, nat_eq_equiv, partial_equiv_from_equiv}
 use Rattle.std.specs.Cmp.Lexicographic.{pointwise, lists_equiv, nat_list_cmp_total, texts_ties}
-use Rattle.std.specs.Ordering.{nat_cmp, eq_by_cmp, as_partial_cmp}
-use Rattle.std.specs.declared.cmp.Ordering.{Ordering}
-use Rattle.std.specs.declared.cmp.Reverse.{Reverse}
-use Rattle.std.proofs.lemmas.Map.Lookups.{CmpEqualImpliesEq, exact_unsigned, exact_bytes, exact_pairs}
+use Rattle.std.specs.Ordering.{eq_by_cmp, as_partial_cmp}
+use Rattle.std.proofs.lemmas.Map.Lookups.{CmpEqualImpliesEq, exact_bytes, exact_pairs}
 use Rattle.net_gains.specs.CodedGains.{numbers_cmp}
 use Rattle.net_gains.specs.Divisors.{divisor_cmp}
 use Rattle.net_gains.specs.declared.divisor.Divisor.{Divisor}
@@ -37,13 +35,3 @@ pub divisors_exact : CmpEqualImpliesEq divisor_cmp
 divisors_exact one other h =
     ap (λ (cubes : List ℕ × List ℕ). let divisor : Divisor = record { first = cubes.0; second = cubes.1 } in divisor)
     (exact_pairs numbers_cmp numbers_cmp exact_bytes exact_bytes (one.first, one.second) (other.first, other.second) h)
-
--- savings, the greatest first; savings that compare equal are the same
-abbrev pub saving_cmp : Reverse ℕ → Reverse ℕ → Ordering
-saving_cmp one other = nat_cmp other.0 one.0
-
-pub savings_total : IsTotalOrder saving_cmp
-savings_total = on_total (λ (one : Reverse ℕ). one.0) (back_total nat_cmp_total)
-
-pub savings_exact : CmpEqualImpliesEq saving_cmp
-savings_exact one other h = ap (λ (saving : ℕ). let rank : Reverse ℕ = record { 0 = saving } in rank) (sym (exact_unsigned other.0 one.0 h))

@@ -8,6 +8,7 @@ use Rattle.std.specs.List.Sorted.{IsStrictlySortedBy}
 use Rattle.std.specs.Map.{lookup}
 use Rattle.std.specs.Ordering.{nat_cmp}
 use Rattle.std.specs.declared.cmp.Reverse.{Reverse}
+use Rattle.net_queue.specs.Greatest.{reversed}
 use Rattle.net_candidates.specs.Candidates.{literals_in}
 use Rattle.net_gains.specs.CodedGains.{same_lists}
 use Rattle.net_gains.specs.Divisors.{cover_of}
@@ -39,4 +40,4 @@ Allows Goes before gain = gain ≤ before
 
 -- by how much a divisor's total exceeds its literals; none if it does not
 abbrev pub rank_of : Divisor → ℕ → Option (Reverse ℕ)
-rank_of divisor total = if nat_lt (literals_in (cover_of divisor)) total then Some (record { 0 = total - literals_in (cover_of divisor) }) else None
+rank_of divisor total = if nat_lt (literals_in (cover_of divisor)) total then Some (reversed (total - literals_in (cover_of divisor))) else None

@@ -11,14 +11,15 @@ use std::cmp::Reverse;
 pub(crate) struct BySaving;
 
 impl Ranking<SharedDivisor, u64, Reverse<u64>> for BySaving {
+    ghost use Rattle.net_queue.specs.Greatest.{greatest_exact};
     ghost use Rattle.net_gains.specs.Totals.{rank_of};
-    ghost use Rattle.net_gains.specs.Orders.{divisors_exact, savings_exact};
+    ghost use Rattle.net_gains.specs.Orders.{divisors_exact};
 
     ghost rank_of = { rank_of };
 
     ghost keys_exact = { divisors_exact };
 
-    ghost ranks_exact = { savings_exact };
+    ghost ranks_exact = { greatest_exact };
 
     fn rank(divisor: &SharedDivisor, total: u64) -> Option<Reverse<u64>> {
         let literals = divisor.literals();
