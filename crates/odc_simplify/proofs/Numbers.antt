@@ -1,15 +1,26 @@
 -- Numbers that stay while others are made.
-use Rattle.std.proofs.Common.{◌≡◌, ℕ, ◌<◌, ◌≤◌, zero, suc, List, [], ◌∷◌, length}
+use Rattle.std.proofs.Common.{◌≡◌, ℕ, ◌<◌, ◌≤◌, zero, suc, List, [], ◌∷◌, length, Result, Err, IfOk, OnOk}
 use Rattle.std.proofs.Common.{get_or, refl, sym, ap, ◌∙◌, subst, arith}
 use Rattle.std.specs.List.{AllByRecursion}
 use Rattle.func_core.specs.Trees.{BooleanFunction, Tree, eval, complement}
 use Rattle.func_core.specs.Sizes.{size}
 use Rattle.func_core.specs.Numbers.{Means, IsBig, Stays}
 use Rattle.func_core.specs.declared.functions.Func.{Func}
+use Rattle.func_core.specs.declared.functions.FuncFault.{FuncFault}
+use Rattle.func_core.specs.declared.functions.FuncFault.TheVariants.{TooBig}
 use Rattle.func_core.proofs.Meanings.{not-both}
 use Rattle.odc_simplify.specs.Seen.{IsOver}
-use Rattle.odc_simplify.specs.Held.{Held, Keeps, function_of, inputs_of, held_of, Gives, IsLiteral, AreLiterals, IsReadyBy}
+use Rattle.odc_simplify.specs.Held.{Held, Keeps, function_of, inputs_of, held_of, Gives, Makes, IsLiteral, AreLiterals, IsReadyBy}
 use Rattle.odc_simplify.specs.declared.products.Literal.{Literal}
+
+-- a function that is refused because a part of it is
+pub failed : (holds : ℕ → Type 0) (tree : ℕ → Tree) (result : Result Func FuncFault) (fault : FuncFault) (f : BooleanFunction) (Big : Type 0) → result ≡ Err fault
+    → (fault ≡ TooBig → Big) → Makes holds tree result f Big
+failed holds tree result fault f Big same why = record {
+  made = subst (λ r. IfOk r (λ number. Gives holds tree number f)) (sym same) tt;
+  passed = subst (λ r. OnOk r (Big → ⊥)) (sym same) tt;
+  refused = λ h. let gone : fault ≡ TooBig = cc in why gone;
+}
 
 abbrev holding : ℕ → BooleanFunction → BooleanFunction → List BooleanFunction → Held
 holding leaves on off inputs = record { leaves = leaves; on = on; off = off; inputs = inputs }

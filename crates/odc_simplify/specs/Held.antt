@@ -1,7 +1,7 @@
 -- The functions that an oracle over numbered functions holds, and how they stay.
 -- Source: R. E. Bryant, "Graph-Based Algorithms for Boolean Function Manipulation", IEEE
 -- Transactions on Computers C-35 (1986), where a function is identified by a vertex of a graph.
-use Rattle.std.specs.Prelude.{◌≡◌, ℕ, List, map, refl}
+use Rattle.std.specs.Prelude.{◌≡◌, ℕ, List, map, refl, Result, Err, IfOk, OnOk}
 use Rattle.std.specs.List.{AllByRecursion}
 use Rattle.std.proofs.Common.{sym, ◌∙◌, subst}
 use Rattle.cover_min.specs.Minimum.{Meaning}
@@ -9,6 +9,8 @@ use Rattle.cover_min.specs.Refusals.{Refusals, SameRefusals}
 use Rattle.func_core.specs.Trees.{BooleanFunction, Tree, eval, complement}
 use Rattle.func_core.specs.Numbers.{Stays}
 use Rattle.func_core.specs.declared.functions.Func.{Func}
+use Rattle.func_core.specs.declared.functions.FuncFault.{FuncFault}
+use Rattle.func_core.specs.declared.functions.FuncFault.TheVariants.{TooBig}
 use Rattle.odc_simplify.specs.Seen.{IsOver, meaning_of}
 use Rattle.odc_simplify.specs.Products.{refusals_of}
 use Rattle.odc_simplify.specs.declared.products.Literal.{Literal}
@@ -50,6 +52,14 @@ pub record Gives (holds : ℕ → Type 0) (tree : ℕ
     → Tree) (number : Func) (f : BooleanFunction) : Type 0 where
   pub stands : holds number.0
   pub computes : function_of tree number ≡ f
+
+-- a result is the number of a function, unless a function that is built for it is too big; then it
+-- is refused
+pub record Makes (holds : ℕ → Type 0) (tree : ℕ → Tree) (result : Result Func FuncFault)
+    (f : BooleanFunction) (Big : Type 0) : Type 0 where
+  pub made : IfOk result (λ number. Gives holds tree number f)
+  pub passed : OnOk result (Big → ⊥)
+  pub refused : result ≡ Err TooBig → Big
 
 -- both numbers of an input's literals are valid, for a function and for its complement
 pub record IsLiteral (holds : ℕ → Type 0) (tree : ℕ → Tree) (literal : Literal) : Type 0 where

@@ -16,7 +16,8 @@ ghost use Rattle.odc_simplify.specs.Seen.{IsOver, seen_at};
 ghost use Rattle.odc_simplify.specs.Products.{with_literal, product, without, outside};
 ghost use Rattle.odc_simplify.specs.Products.{IsBigWith, IsBigAlong, IsBigWithout, IsBigOutside};
 ghost use Rattle.odc_simplify.specs.Products.{IsBigBeside};
-ghost use Rattle.odc_simplify.specs.Held.{Gives, IsLiteral, AreLiterals, function_of, inputs_of};
+ghost use Rattle.odc_simplify.specs.Held.{Gives, Makes, IsLiteral, AreLiterals};
+ghost use Rattle.odc_simplify.specs.Held.{function_of, inputs_of};
 
 use cube_cover::Row;
 use func_core::{Func, FuncFault, Functions};
@@ -33,15 +34,10 @@ pub(crate) fn conjoin<F: Functions>(functions: &mut F, f: Func, g: Func) -> Resu
     requires f { F.holds functions.old f.0 }
     requires g { F.holds functions.old g.0 }
     ensures stays { Stays F.holds F.tree F.limit functions.old functions.new }
-    ensures made { IfOk result (λ made. Gives (F.holds functions.new) (F.tree functions.new) made
-        (conjunction (function_of (F.tree functions.old) f) (function_of
-        (F.tree functions.old) g))) }
-    ensures passed { OnOk result (IsBig (F.limit functions.old)
+    ensures makes { Makes (F.holds functions.new) (F.tree functions.new) result
         (conjunction (function_of (F.tree functions.old) f) (function_of (F.tree functions.old) g))
-        → ⊥) }
-    ensures refused { result ≡ Err FuncFault.TooBig → IsBig (F.limit functions.old)
-        (conjunction (function_of (F.tree functions.old) f) (function_of
-        (F.tree functions.old) g)) }
+        (IsBig (F.limit functions.old) (conjunction (function_of (F.tree functions.old) f)
+        (function_of (F.tree functions.old) g))) }
 {
     let made = functions.and(f, g)?;
     Ok(made)
@@ -80,15 +76,11 @@ fn add_literal<F: Functions>(
     requires from { F.holds functions.old from.0 }
     requires literal { IsLiteral (F.holds functions.old) (F.tree functions.old) literal }
     ensures stays { Stays F.holds F.tree F.limit functions.old functions.new }
-    ensures made { IfOk result (λ made. Gives (F.holds functions.new) (F.tree functions.new) made
+    ensures makes { Makes (F.holds functions.new) (F.tree functions.new) result
         (with_literal (function_of (F.tree functions.old) from)
-        (function_of (F.tree functions.old) literal.positive) place)) }
-    ensures passed { OnOk result (IsBigWith (F.limit functions.old)
-        (function_of (F.tree functions.old) from)
-        (function_of (F.tree functions.old) literal.positive) place → ⊥) }
-    ensures refused { result ≡ Err FuncFault.TooBig → IsBigWith (F.limit functions.old)
-        (function_of (F.tree functions.old) from)
-        (function_of (F.tree functions.old) literal.positive) place }
+        (function_of (F.tree functions.old) literal.positive) place)
+        (IsBigWith (F.limit functions.old) (function_of (F.tree functions.old) from)
+        (function_of (F.tree functions.old) literal.positive) place) }
 {
     match place {
         None => Ok(from),
@@ -108,15 +100,11 @@ fn product_of<R: Row, F: Functions>(
     requires literals { AreLiterals (F.holds functions.old) (F.tree functions.old) literals.now }
     requires width { length (R.literals row.now) ≡ length literals.now }
     ensures stays { Stays F.holds F.tree F.limit functions.old functions.new }
-    ensures made { IfOk result (λ made. Gives (F.holds functions.new) (F.tree functions.new) made
+    ensures makes { Makes (F.holds functions.new) (F.tree functions.new) result
         (product (function_of (F.tree functions.old) from)
-        (inputs_of (F.tree functions.old) literals.now) (R.literals row.now))) }
-    ensures passed { OnOk result (IsBigAlong (F.limit functions.old)
-        (function_of (F.tree functions.old) from)
-        (inputs_of (F.tree functions.old) literals.now) (R.literals row.now) → ⊥) }
-    ensures refused { result ≡ Err FuncFault.TooBig → IsBigAlong (F.limit functions.old)
-        (function_of (F.tree functions.old) from)
-        (inputs_of (F.tree functions.old) literals.now) (R.literals row.now) }
+        (inputs_of (F.tree functions.old) literals.now) (R.literals row.now))
+        (IsBigAlong (F.limit functions.old) (function_of (F.tree functions.old) from)
+        (inputs_of (F.tree functions.old) literals.now) (R.literals row.now)) }
 {
     let mut made = from;
     for (place, literal) in literals.iter().enumerate() {
@@ -136,15 +124,11 @@ fn without_row<R: Row, F: Functions>(
     requires literals { AreLiterals (F.holds functions.old) (F.tree functions.old) literals.now }
     requires width { length (R.literals row.now) ≡ length literals.now }
     ensures stays { Stays F.holds F.tree F.limit functions.old functions.new }
-    ensures made { IfOk result (λ made. Gives (F.holds functions.new) (F.tree functions.new) made
+    ensures makes { Makes (F.holds functions.new) (F.tree functions.new) result
         (without (function_of (F.tree functions.old) from)
-        (inputs_of (F.tree functions.old) literals.now) (R.literals row.now))) }
-    ensures passed { OnOk result (IsBigWithout (F.limit functions.old)
-        (function_of (F.tree functions.old) from)
-        (inputs_of (F.tree functions.old) literals.now) (R.literals row.now) → ⊥) }
-    ensures refused { result ≡ Err FuncFault.TooBig → IsBigWithout (F.limit functions.old)
-        (function_of (F.tree functions.old) from)
-        (inputs_of (F.tree functions.old) literals.now) (R.literals row.now) }
+        (inputs_of (F.tree functions.old) literals.now) (R.literals row.now))
+        (IsBigWithout (F.limit functions.old) (function_of (F.tree functions.old) from)
+        (inputs_of (F.tree functions.old) literals.now) (R.literals row.now)) }
 {
     let all = everywhere(functions)?;
     let product = product_of(functions, all, literals, row)?;
@@ -163,15 +147,11 @@ fn without_rows<R: Row, F: Functions>(
     requires literals { AreLiterals (F.holds functions.old) (F.tree functions.old) literals.now }
     requires widths { HasWidth (length literals.now) (map R.literals rows.now) }
     ensures stays { Stays F.holds F.tree F.limit functions.old functions.new }
-    ensures made { IfOk result (λ made. Gives (F.holds functions.new) (F.tree functions.new) made
+    ensures makes { Makes (F.holds functions.new) (F.tree functions.new) result
         (outside (function_of (F.tree functions.old) from)
-        (inputs_of (F.tree functions.old) literals.now) (map R.literals rows.now))) }
-    ensures passed { OnOk result (IsBigOutside (F.limit functions.old)
-        (function_of (F.tree functions.old) from)
-        (inputs_of (F.tree functions.old) literals.now) (map R.literals rows.now) → ⊥) }
-    ensures refused { result ≡ Err FuncFault.TooBig → IsBigOutside (F.limit functions.old)
-        (function_of (F.tree functions.old) from)
-        (inputs_of (F.tree functions.old) literals.now) (map R.literals rows.now) }
+        (inputs_of (F.tree functions.old) literals.now) (map R.literals rows.now))
+        (IsBigOutside (F.limit functions.old) (function_of (F.tree functions.old) from)
+        (inputs_of (F.tree functions.old) literals.now) (map R.literals rows.now)) }
 {
     let mut left = from;
     for row in rows {

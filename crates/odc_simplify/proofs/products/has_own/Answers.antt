@@ -14,8 +14,8 @@ returns-in_err-own-clause-refused g c = λ h.
     inr (carried g.F.Functions.holds g.F.Functions.tree g.F.Functions.limit
     (λ limit f inputs. IsBigOutside limit f inputs (map g.R.Row.literals c.args.others.now))
     c.args.functions.now c.product_of.new.functions c.in_ok-product.product _ c.args.literals.now
-    c.in_ok-product.ensures.stays c.requires.literals c.in_ok-product.ensures.made
-    (c.in_err-own.ensures.refused (ap Err gone)))
+    c.in_ok-product.ensures.stays c.requires.literals c.in_ok-product.ensures.makes.made
+    (c.in_err-own.ensures.makes.refused (ap Err gone)))
 
 pub returns-clause-answer : goal.returns-clause-answer
 returns-clause-answer g c = λ leaves over all.
@@ -25,14 +25,14 @@ returns-clause-answer g c = λ leaves over all.
     (g.F.Functions.tree c.without_rows.new.functions c.in_ok-own.own.0) c.is_zero.result
     (g.R.Row.literals c.args.row.now) (map g.R.Row.literals c.args.others.now)
     (g.met.F.Functions.reduced c.without_rows.new.functions c.in_ok-own.own.0
-    c.in_ok-own.ensures.made.stands)
+    c.in_ok-own.ensures.makes.made.stands)
     (carried g.F.Functions.holds g.F.Functions.tree g.F.Functions.limit
     (λ limit f inputs. Gives (g.F.Functions.holds c.without_rows.new.functions)
     (g.F.Functions.tree c.without_rows.new.functions) c.in_ok-own.own
     (outside f inputs (map g.R.Row.literals c.args.others.now)))
     c.args.functions.now c.product_of.new.functions c.in_ok-product.product _ c.args.literals.now
-    c.in_ok-product.ensures.stays c.requires.literals c.in_ok-product.ensures.made
-    c.in_ok-own.ensures.made).computes
+    c.in_ok-product.ensures.stays c.requires.literals c.in_ok-product.ensures.makes.made
+    c.in_ok-own.ensures.makes.made).computes
     c.is_zero.ensures
     (c.requires.width ∙ sym (length-map c.args.literals.now
     (λ literal. function_of (g.F.Functions.tree c.args.functions.now) literal.positive)))
@@ -40,9 +40,9 @@ returns-clause-answer g c = λ leaves over all.
 
 pub returns-clause-passed : goal.returns-clause-passed
 returns-clause-passed g c =
-    neither _ _ c.in_ok-product.ensures.passed
+    neither _ _ c.in_ok-product.ensures.makes.passed
     (carried g.F.Functions.holds g.F.Functions.tree g.F.Functions.limit
     (λ limit f inputs. IsBigOutside limit f inputs (map g.R.Row.literals c.args.others.now) → ⊥)
     c.args.functions.now c.product_of.new.functions c.in_ok-product.product _ c.args.literals.now
-    c.in_ok-product.ensures.stays c.requires.literals c.in_ok-product.ensures.made
-    c.in_ok-own.ensures.passed)
+    c.in_ok-product.ensures.stays c.requires.literals c.in_ok-product.ensures.makes.made
+    c.in_ok-own.ensures.makes.passed)

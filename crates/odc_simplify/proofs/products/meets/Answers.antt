@@ -12,8 +12,8 @@ returns-clause-answer g c = λ leaves over all.
     (g.F.Functions.tree c.product_of.new.functions c.in_ok-product.product.0) c.is_zero.result
     (g.R.Row.literals c.args.row.now)
     (g.met.F.Functions.reduced c.product_of.new.functions c.in_ok-product.product.0
-    c.in_ok-product.ensures.made.stands)
-    c.in_ok-product.ensures.made.computes c.is_zero.ensures
+    c.in_ok-product.ensures.makes.made.stands)
+    c.in_ok-product.ensures.makes.made.computes c.is_zero.ensures
     (c.requires.width ∙ sym (length-map c.args.literals.now
     (λ literal. function_of (g.F.Functions.tree c.args.functions.now) literal.positive)))
     over all

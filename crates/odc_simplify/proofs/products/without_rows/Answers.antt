@@ -1,8 +1,7 @@
-use Rattle.std.proofs.Common.{rules, ◌≡◌, Err, length, map, ap, arith}
+use Rattle.std.proofs.Common.{rules, Err, length, map, ap, arith}
 use Rattle.std.proofs.lemmas.List.{drop_all}
 use Rattle.cube_cover.proofs.Points.{width_read}
-use Rattle.func_core.specs.declared.functions.FuncFault.TheVariants.{TooBig}
-use Rattle.odc_simplify.proofs.Numbers.{literals_stay}
+use Rattle.odc_simplify.proofs.Numbers.{literals_stay, failed}
 use Rattle.odc_simplify.proofs.Walks.{taking_out_first, taking_out_more, taking_out_refused, taking_out_last, rows_from}
 use Rattle.odc_simplify.proofs.products.without_rows.Goals as goal
 
@@ -25,17 +24,16 @@ without_row-requires-clause-width g c =
     width_read g.R.Row.literals (length c.args.literals.now) c.args.rows.now c.loop-row.row-index
     c.row-item.result c.requires.widths (omega arith) c.row-item.is
 
-pub returns-in_err-left-clause-refused : goal.returns-in_err-left-clause-refused
-returns-in_err-left-clause-refused g c = λ h.
-    let same : c.from_residual.result ≡ Err c.in_err-left.field-0.0 = search rules in
-    let gone : c.in_err-left.field-0.0 ≡ TooBig = cc in
+pub returns-in_err-left-clause-makes : goal.returns-in_err-left-clause-makes
+returns-in_err-left-clause-makes g c =
+    failed _ _ _ c.in_err-left.field-0.0 _ _ (search rules) (λ gone.
     taking_out_refused g.F.Functions.holds g.F.Functions.tree g.F.Functions.limit
     c.args.functions.now c.loop-row.functions c.args.from c.loop-row.left c.args.literals.now
     (map g.R.Row.literals c.args.rows.now) _ _ (g.R.Row.literals c.row-item.result)
     c.loop-row.invariant c.requires.literals
     (rows_from g.R.Row.literals c.args.rows.now c.loop-row.row-index c.row-item.result (omega arith)
     c.row-item.is)
-    (c.in_err-left.ensures.refused (ap Err gone))
+    (c.in_err-left.ensures.makes.refused (ap Err gone)))
 
 pub loop-row-preserved : goal.loop-row-preserved
 loop-row-preserved g c =
@@ -46,18 +44,13 @@ loop-row-preserved g c =
     c.loop-row.invariant c.requires.literals
     (rows_from g.R.Row.literals c.args.rows.now c.loop-row.row-index c.row-item.result (omega arith)
     c.row-item.is)
-    c.in_ok-left.ensures.stays c.in_ok-left.ensures.made c.in_ok-left.ensures.passed
+    c.in_ok-left.ensures.stays c.in_ok-left.ensures.makes.made c.in_ok-left.ensures.makes.passed
 
-pub returns-clause-made : goal.returns-clause-made
-returns-clause-made g c =
-    (taking_out_last g.F.Functions.holds g.F.Functions.tree g.F.Functions.limit
+pub returns-clause-makes : goal.returns-clause-makes
+returns-clause-makes g c =
+    let last =
+    taking_out_last g.F.Functions.holds g.F.Functions.tree g.F.Functions.limit
     c.args.functions.now c.loop-row.functions c.args.from c.loop-row.left c.args.literals.now
     (map g.R.Row.literals c.args.rows.now) _ c.loop-row.invariant
-    (ap (map g.R.Row.literals) (drop_all c.loop-row.row-index c.args.rows.now (omega arith)))).0
-
-pub returns-clause-passed : goal.returns-clause-passed
-returns-clause-passed g c =
-    (taking_out_last g.F.Functions.holds g.F.Functions.tree g.F.Functions.limit
-    c.args.functions.now c.loop-row.functions c.args.from c.loop-row.left c.args.literals.now
-    (map g.R.Row.literals c.args.rows.now) _ c.loop-row.invariant
-    (ap (map g.R.Row.literals) (drop_all c.loop-row.row-index c.args.rows.now (omega arith)))).1
+    (ap (map g.R.Row.literals) (drop_all c.loop-row.row-index c.args.rows.now (omega arith))) in
+    record { made = last.0; passed = last.1; refused = λ h. absurd cc }

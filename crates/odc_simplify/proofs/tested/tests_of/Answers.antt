@@ -10,5 +10,5 @@ returns-clause-made g c =
     c.in_ok-on.ensures.stays c.in_ok-below.ensures.stays c.in_ok-off.ensures.stays
     c.requires.own c.requires.seen c.in_ok-below.ensures.made c.literals_of.new.functions
     (record { on = c.in_ok-on.on; off = c.in_ok-off.off; literals = c.in_ok-literals.literals })
-    c.in_ok-literals.ensures.stays c.in_ok-on.ensures.made c.in_ok-off.ensures.made
+    c.in_ok-literals.ensures.stays c.in_ok-on.ensures.makes.made c.in_ok-off.ensures.makes.made
     c.requires.inputs c.in_ok-literals.ensures.literals c.in_ok-literals.ensures.inputs refl refl
