@@ -40,4 +40,6 @@ Allows Goes before gain = gain ≤ before
 
 -- by how much a divisor's total exceeds its literals; none if it does not
 abbrev pub rank_of : Divisor → ℕ → Option (Reverse ℕ)
-rank_of divisor total = if nat_lt (literals_in (cover_of divisor)) total then Some (reversed (total - literals_in (cover_of divisor))) else None
+rank_of divisor total =
+    if nat_lt (literals_in (cover_of divisor)) total
+    then Some (reversed (total - literals_in (cover_of divisor))) else None
