@@ -31,6 +31,9 @@ use sis_base::Sequence;
 use sis_base::limits::MAX_INPUTS;
 use std::alloc::{AllocError, Global};
 
+/// So many rows are compared two by two, which then takes less time than a set of them.
+const FEW_ROWS: usize = 200;
+
 // Whether all literals of a cube have one of some names.
 fn is_read(names: &[Name], cube: &[Literal]) -> bool
     ensures { result ≡ list_all (λ (literal : Literal). has names.now literal.name) cube.now }
@@ -133,10 +136,44 @@ fn add_row(
     Ok(is_new)
 }
 
+// Whether two rows are the same.
+fn is_same<R: Row>(one: &R, other: &R) -> bool
+    ensures { R.literals one.now ≡ R.literals other.now → result ≡ true }
+{
+    one.width() == other.width() && one.is_equal(other)
+}
+
+// Whether a row is among others.
+fn is_among<R: Row>(row: &R, others: &[R]) -> bool
+    ensures { Has (R.literals row.now) (map R.literals others.now) → result ≡ true }
+{
+    for other in others {
+        if is_same(row, other) {
+            return true;
+        }
+    }
+    false
+}
+
+// Whether rows are distinct, each compared with all later ones.
+fn are_distinct_by_pairs<R: Row>(rows: &[R]) -> bool
+    ensures { IsTrue result → AreOnce (map R.literals rows.now) }
+{
+    for (place, row) in rows.iter().enumerate() {
+        if is_among(row, &rows[place + 1..]) {
+            return false;
+        }
+    }
+    true
+}
+
 // Whether rows are distinct.
 fn are_distinct<R: Row>(alloc: Global, rows: &[R]) -> Result<bool, AllocError>
     ensures { IfOk result (λ distinct. IsTrue distinct → AreOnce (map R.literals rows.now)) }
 {
+    if rows.len() <= FEW_ROWS {
+        return Ok(are_distinct_by_pairs(rows));
+    }
     let mut seen = IndexSet::new(alloc);
     for row in rows {
         let is_new = add_row(&mut seen, literals_of(alloc, row)?)?;
@@ -181,7 +218,10 @@ pub(crate) fn loss_by_rows<R: Row>(
         return Ok(Some(0));
     }
     let count = count_rows(alloc, table, cube)?;
-    if count == 0 || !are_telling(alloc, table, cube)? {
+    if count == 0 {
+        return Ok(Some(0));
+    }
+    if !are_telling(alloc, table, cube)? {
         return Ok(None);
     }
     // by this call the rows are known to have the cover's width
