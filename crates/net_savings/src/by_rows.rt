@@ -6,7 +6,7 @@
 //! input, need not be divided to know what it loses by one cube; and one without such a row loses
 //! nothing. Callers rely on `loss_by_rows`: the number is exact if there is one.
 
-ghost use Rattle.std.specs.Prelude.{◌≡◌, ℕ, ◌+◌, ◌-◌, ◌*◌, ◌<◌, ◌≤◌, ◌++◌, ◌∷◌, [], true, false, if◌then◌else◌, Some, List, length, map, IsTrue, IfOk, IfSome};
+ghost use Rattle.std.specs.Prelude.{◌≡◌, ◌↔◌, ℕ, ◌+◌, ◌-◌, ◌*◌, ◌<◌, ◌≤◌, ◌++◌, ◌∷◌, [], true, false, if◌then◌else◌, Some, List, length, map, IsTrue, IfOk, IfSome};
 ghost use Rattle.std.specs.List.{list_all};
 ghost use Rattle.circuit_model.specs.Names.{has, all_different};
 ghost use Rattle.sis_base.specs.Rows.{HasWidth};
@@ -138,14 +138,14 @@ fn add_row(
 
 // Whether two rows are the same.
 fn is_same<R: Row>(one: &R, other: &R) -> bool
-    ensures { R.literals one.now ≡ R.literals other.now → result ≡ true }
+    ensures { IsTrue result ↔ (R.literals one.now ≡ R.literals other.now) }
 {
     one.width() == other.width() && one.is_equal(other)
 }
 
 // Whether a row is among others.
 fn is_among<R: Row>(row: &R, others: &[R]) -> bool
-    ensures { Has (R.literals row.now) (map R.literals others.now) → result ≡ true }
+    ensures { IsTrue result ↔ Has (R.literals row.now) (map R.literals others.now) }
 {
     for other in others {
         if is_same(row, other) {
