@@ -12,7 +12,7 @@ use Rattle.cube_cover.specs.Covers.{Intersects, ContainsRow, IsProduct, product_
 use Rattle.cube_cover.specs.Literals.{literals_intersect, rows_intersect, literal_contains, row_contains, literal_product, literal_shared, not_dash, all_dashes}
 use Rattle.cube_cover.proofs.Products.{intersects_answer, contains_answer, test_from_intersects, product_points, length-product_of}
 use Rattle.cube_cover.proofs.Dashes.{all_from}
-use Rattle.cube_cover.proofs.Turned.{length-shared_of, shared_at}
+use Rattle.cube_cover.proofs.Turned.{length-shared_of, shared_at, product_at}
 use Rattle.cube_packed.specs.Planes.{plane_words, plane_bit, literal_of, plane_literals, packed_literals, AreApart, IsWithin, AreCube, IsPacked, HasBitSet, has_sign}
 use Rattle.cube_packed.proofs.PlaneBits.{joined_bit, common_bit, same_answers}
 use Rattle.cube_packed.proofs.PlaneLoops.{take_zip2, drop_zip2, refill_same}
@@ -171,16 +171,6 @@ contains_by_planes a b p n q m e ea eb ca cb r h k = contains_answer a b e r (sa
     back t = k (λ i. (each t i (cases_lt i (length a))).0) (λ i. (each t i (cases_lt i (length a))).1)
 
 -- ---- the product
-product_at : (a b : List (Option Bool)) (i : ℕ) → length a ≡ length b → get_or (product_of a b) i None ≡ literal_product (get_or a i None) (get_or b i None)
-unfolding product_of
-product_at [] [] i e = refl
-product_at [] (m ∷ ms) i e = absurd (omega arith)
-product_at (l ∷ ls) [] i e = absurd (omega arith)
-product_at (None ∷ ls) (m ∷ ms) zero e = refl
-product_at (None ∷ ls) (m ∷ ms) (suc i) e = product_at ls ms i (omega arith)
-product_at (Some l ∷ ls) (m ∷ ms) zero e = refl
-product_at (Some l ∷ ls) (m ∷ ms) (suc i) e = product_at ls ms i (omega arith)
-
 product_by_bits : (p n q m : ℕ) → min n q ≡ 0 → min p n ≡ 0 → literal_of (max p q) (max n m) ≡ literal_product (literal_of p n) (literal_of q m)
 product_by_bits zero zero q m h d = let e : max zero q ≡ q = omega arith in let f : max zero m ≡ m = omega arith in cc
 product_by_bits zero (suc n) q m h d = negative_of (max zero q) (max (suc n) m) (omega arith) (omega arith)
@@ -215,7 +205,7 @@ product_by_planes a b p n q m e ea eb ca cb h = (
 
     each : (i : ℕ) → i < length a → literal_of (plane_bit (zip2 bit_or p q) i) (plane_bit (zip2 bit_or n m) i) ≡ get_or (product_of a b) i None
     each i lt =
-        rw (joined_bit p q i wide, joined_bit n m i long, product_at a b i e, literal_at a p n ea i lt, literal_at b q m eb i (omega arith))
+        rw (joined_bit p q i wide, joined_bit n m i long, ← product_at a b i e lt, literal_at a p n ea i lt, literal_at b q m eb i (omega arith))
         (product_by_bits (plane_bit p i) (plane_bit n i) (plane_bit q i) (plane_bit m i) (both.1 i) (ca.apart i))
 
 -- ---- the common literals
