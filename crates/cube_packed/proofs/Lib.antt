@@ -5,3 +5,4 @@ pub mod PlaneLiterals
 pub mod PlaneNext
 pub mod PlaneMasks
 pub mod PlaneFree
+pub mod PlaneCounts

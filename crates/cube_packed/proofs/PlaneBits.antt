@@ -19,7 +19,7 @@ column_word k j h = omega arith
 pub column_bit : (k j : ℕ) → j < 64 → (64 * k + j) % 64 ≡ j
 column_bit k j h = omega arith
 
-bit_of_column : (ws : List ℕ) (k j : ℕ) → j < 64 → plane_bit ws (64 * k + j) ≡ bit_at (get_or ws k 0) j
+pub bit_of_column : (ws : List ℕ) (k j : ℕ) → j < 64 → plane_bit ws (64 * k + j) ≡ bit_at (get_or ws k 0) j
 bit_of_column ws k j h = cc (ap (λ w. get_or ws w 0) (column_word k j h), column_bit k j h)
 
 -- words without a common one, at each bit

@@ -138,6 +138,11 @@ impl Row for PackedRow {
         words::next_one(positive, negative, self.width(), from)
     }
 
+    fn literal_count(&self) -> usize {
+        let (positive, negative) = self.planes();
+        words::one_count(positive, negative, self.width())
+    }
+
     fn without(&self, alloc: Global, mask: &PackedRow) -> Result<PackedRow, AllocError> {
         let (positive, negative) = self.planes();
         let (mask_positive, mask_negative) = mask.planes();

@@ -8,7 +8,8 @@
 ghost use Rattle.std.specs.Prelude.{◌≡◌, ◌+◌, ◌*◌, ◌<◌, ◌≤◌, ◌==◌, ◌↔◌, ◌^◌, ℕ, Option, None, max, true, false, ◌++◌, length, slice_index_or, take, drop, bit_and, bit_or, IfOk, IfSome, IsTrue};
 ghost use Rattle.std.specs.Simd.Lanes.{zip2};
 ghost use Rattle.std.specs.Int.{bit_at};
-ghost use Rattle.cube_packed.specs.Planes.{plane_bit, AreCube, AreApart, IsWithin, HasBitSet, has_sign, words_apart, words_within, and_not};
+ghost use Rattle.cube_cover.specs.Literals.{row_literals};
+ghost use Rattle.cube_packed.specs.Planes.{plane_bit, plane_literals, AreCube, AreApart, IsWithin, HasBitSet, has_sign, words_apart, words_within, and_not};
 
 use smallvec::SmallVec;
 use std::alloc::{AllocError, Global};
@@ -169,6 +170,18 @@ pub fn next_one(words: &[u64], others: &[u64], width: usize, from: usize) -> Opt
         }
     }
     None
+}
+
+/// The number of columns that have a one in one of two planes.
+pub fn one_count(words: &[u64], others: &[u64], width: usize) -> usize
+    requires { AreCube width words.now others.now }
+    ensures { result ≡ row_literals (plane_literals width words.now others.now) }
+{
+    let mut count = 0;
+    for place in 0..words.len() {
+        count += (words[place] | others[place]).count_ones() as usize;
+    }
+    count
 }
 
 // The ones of a word from a bit on.
