@@ -1,7 +1,7 @@
--- What holds of a draft, line by line: its counts are small, its states are different, in the order
--- in which rows name them, and what holds of each word of the lines holds of them; its rows are
--- shaped.
-use Rattle.std.proofs.Common.{◌≡◌, ℕ, ◌+◌, ◌-◌, ◌*◌, ◌<◌, ◌≤◌, ◌==◌, nat_lt, nat_le, Bool, true, false, not, ◌&&◌, ◌||◌, Option, Some, None, Result, Ok, Err, List, [], ◌∷◌, ◌++◌, map, flat_map, length, bytes_eq, cond, find, refl, sym, ◌∙◌, ap, subst, arith, length-append, if◌then◌else◌}
+-- What holds of a draft, statement by statement: its counts are small, its states are different, in
+-- the order in which rows name them, and what holds of each word of the lines holds of them; its
+-- rows are shaped.
+use Rattle.std.proofs.Common.{◌≡◌, ℕ, ◌+◌, ◌-◌, ◌*◌, ◌<◌, ◌≤◌, ◌==◌, nat_lt, nat_le, Bool, true, false, not, ◌&&◌, ◌||◌, Option, Some, None, List, [], ◌∷◌, ◌++◌, map, flat_map, length, bytes_eq, cond, find, refl, sym, ◌∙◌, ap, arith, if◌then◌else◌}
 use Rattle.std.specs.List.{AllByRecursion, list_all, fold, range_with_len}
 use Rattle.std.specs.Option.{option_map, option_or}
 use Rattle.std.proofs.lemmas.Bool.Decides.{nat_tests}
@@ -13,21 +13,19 @@ use Rattle.std.proofs.lemmas.Bool.{and_parts}
 use Rattle.circuit_model.specs.Names.{all_different}
 use Rattle.sis_text.specs.Words.{begins_with}
 use Rattle.sis_text.specs.Decimals.{is_digit, number_of}
-use Rattle.sis_text.specs.Entries.{Entry}
-use Rattle.line_words.specs.LineWords.{other_words, long_name, character_of, is_character}
+use Rattle.line_words.specs.LineWords.{first_word, other_words, long_name, character_of, is_character}
 use Rattle.circuit_model.specs.MachineSoundness.{is_any, mentioned_by, first_mentions}
 use Rattle.circuit_model.specs.declared.machine.MachineRow.{MachineRow}
-use Rattle.kiss_format.specs.Keywords.{kind_of}
-use Rattle.kiss_format.specs.Lines.{when, is_missing, first_item, is_numeral, count_of, count_in, named_states, state_words, with_states, count_fault, form_fault, row_fault, long_fault, is_cube, is_row_of}
-use Rattle.kiss_format.specs.Reader.{state_of, place_of, row_of}
-use Rattle.kiss_format.specs.Steps.{draft_fault, with_line, onward, take_entries, no_lines}
+use Rattle.kiss_format.specs.Keywords.{keyword_of}
+use Rattle.kiss_format.specs.Statements.{Said, Inputs, Outputs, Reset, Row, Nothing, NoRow, NoHeader, is_numeral, count_of, count_in, of_count, of_word, of_reset, of_row, said_as, said_by}
+use Rattle.kiss_format.specs.Lines.{when, first_of, is_missing, first_item, with_states, place_of, state_of, row_of, long_fault, is_wide, ports_fault, count_fault, form_fault, limit_fault}
+use Rattle.kiss_format.specs.Steps.{with_said, no_lines}
 use Rattle.kiss_format.specs.declared.keyword.Keyword.{Keyword}
-use Rattle.kiss_format.specs.declared.keyword.Keyword.TheVariants.{Inputs, Outputs, Products, States, Reset, End, Row, Other}
+use Rattle.kiss_format.specs.declared.keyword.Keyword.TheVariants as kind
 use Rattle.kiss_format.specs.declared.fault.KissFault.{KissFault}
 use Rattle.kiss_format.specs.declared.fault.KissFault.TheVariants.{BadHeader, BadRow, Limit}
 use Rattle.kiss_format.specs.declared.fault.LimitKind.TheVariants as limit
 use Rattle.kiss_format.specs.declared.draft.Draft.{Draft}
-use Rattle.kiss_format.proofs.Agreement.{when-not, or-first, not-not, none-first, none-later, none-either, row-new, taken-by}
 use Rattle.kiss_format.proofs.Firsts.{currents, one-first}
 use Rattle.kiss_format.proofs.Mentions.{all_append, all_kept, with_keeps, with_once, with_longer, mentions_append, words_mentioned}
 use Rattle.kiss_format.proofs.Places.{kept}
@@ -50,20 +48,43 @@ HasWidths inputs outputs row = (inputs ≡ Some (length row.input)) × (outputs 
 abbrev pub IsShort : List ℕ → Type 0
 IsShort name = length name ≤ MAX_NAME
 
+-- states and rows are good
+pub record AreGood (W : OfWords) (states : List (List ℕ)) (rows : List MachineRow) : Type 0 where
+  pub words : AllByRecursion W states
+  pub once : all_different states ≡ true
+  pub named : AllByRecursion (λ state. is_any state ≡ false) states
+  pub in_order : first_mentions [] (flat_map mentioned_by rows) ≡ range_with_len 0 (length states)
+  pub within : (place : ℕ) → first_item (currents rows) ≡ Some place → place < length states
+  pub few : length rows ≤ MAX_MACHINE_ROWS
+  pub limited : length states ≤ MAX_STATES
+  pub short : AllByRecursion IsShort states
+
 pub record IsGood (W : OfWords) (draft : Draft) : Type 0 where
   pub inputs : IsCount draft.inputs
   pub outputs : IsCount draft.outputs
-  pub words : AllByRecursion W draft.states
-  pub once : all_different draft.states ≡ true
-  pub named : AllByRecursion (λ state. is_any state ≡ false) draft.states
-  pub in_order : first_mentions [] (flat_map mentioned_by draft.rows) ≡ range_with_len 0 (length draft.states)
-  pub within : (place : ℕ) → first_item (currents draft.rows) ≡ Some place → place < length draft.states
   pub shaped : AllByRecursion (HasWidths draft.inputs draft.outputs) draft.rows
-  pub few : length draft.rows ≤ MAX_MACHINE_ROWS
-  pub limited : length draft.states ≤ MAX_STATES
-  pub short : AllByRecursion IsShort draft.states
+  pub body : AreGood W draft.states draft.rows
 
--- counts
+-- causes that do not hold
+
+none_each : (causes : List (Option KissFault)) → first_of causes ≡ None → AllByRecursion (λ cause. cause ≡ None) causes
+unfolding first_of
+none_each [] e = tt
+none_each (None ∷ causes) e = (refl, none_each causes e)
+none_each (Some fault ∷ causes) e = absurd (let no : Some fault ≡ None = e in cc)
+
+held : (test : Bool) (fault : KissFault) → when (not test) fault ≡ None → test ≡ true
+held true fault e = refl
+held false fault e = absurd (let no : Some fault ≡ None = e in cc)
+
+within : (max count : ℕ) (fault : KissFault) → when (nat_lt max count) fault ≡ None → count ≤ max
+within max count fault e = by (nat_lt max count) refl e
+  where
+    by : (b : Bool) → nat_lt max count ≡ b → when b fault ≡ None → count ≤ max
+    by true t e = absurd (let no : Some fault ≡ None = e in cc)
+    by false t e = grind (arith, nat_tests)
+
+-- the statement of a line
 
 fold_grows : (start : ℕ) (digits : List ℕ) → start ≤ fold (λ number digit. number * 10 + (digit - 48)) start digits
 fold_grows start [] = omega arith
@@ -99,40 +120,63 @@ counts_small [] = tt
 counts_small (word ∷ []) = count_small word
 counts_small (word ∷ other ∷ words) = tt
 
-or-last : (a b : Bool) → (a || b) ≡ false → b ≡ false
-or-last true b e = absurd (let no : true ≡ false = e in cc)
-or-last false b e = e
+-- a count is small, and what holds of each word of a line holds of the states that it names
+abbrev pub IsSaid : OfWords → Said → Type 0
+IsSaid W (Inputs count) = IsCount (Some count)
+IsSaid W (Outputs count) = IsCount (Some count)
+IsSaid W (Row input current next output) = W current × W next
+IsSaid W statement = Unit {0}
 
-zero-test : (n : ℕ) → (n == 0) ≡ true → n ≡ 0
-zero-test n e = grind (arith, nat_tests)
+count_said : (W : OfWords) (statement : ℕ → Said) (count : Option ℕ) → ((n : ℕ) → IsCount (Some n) → IsSaid W (statement n)) → IsCount count → IsSaid W (of_count statement count)
+count_said W statement None makes small = tt
+count_said W statement (Some count) makes small = makes count small
 
-none-shaped : (P : MachineRow → Type 0) (rows : List MachineRow) → length rows ≡ 0 → AllByRecursion P rows
+word_said : (W : OfWords) (words : List (List ℕ)) → IsSaid W (of_word words) × IsSaid W (of_reset words)
+word_said W [] = (tt, tt)
+word_said W (word ∷ []) = (tt, tt)
+word_said W (word ∷ other ∷ words) = (tt, tt)
+
+row_said : (W : OfWords) (words : List (List ℕ)) → AllByRecursion W words → IsSaid W (of_row words)
+row_said W (input ∷ current ∷ next ∷ output ∷ []) are = by (list_all is_character input && list_all is_character output)
+  where
+    by : (b : Bool) → IsSaid W (if b then Row input current next output else NoRow)
+    by true = (are.1.0, are.1.1.0)
+    by false = tt
+row_said W [] are = tt
+row_said W (a ∷ []) are = tt
+row_said W (a ∷ b ∷ []) are = tt
+row_said W (a ∷ b ∷ c ∷ []) are = tt
+row_said W (a ∷ b ∷ c ∷ d ∷ e ∷ words) are = tt
+
+pub line_said : (W : OfWords) (words : List (List ℕ)) → AllByRecursion W words → IsSaid W (said_by words)
+unfolding said_by
+line_said W words are = by (keyword_of (first_word words)) (other_words words)
+  where
+    by : (of : Keyword) (others : List (List ℕ)) → IsSaid W (said_as of others words)
+    by kind.Inputs others = count_said W Inputs (count_in others) (λ n small. small) (counts_small others)
+    by kind.Outputs others = count_said W Outputs (count_in others) (λ n small. small) (counts_small others)
+    by kind.Products others = (word_said W others).0
+    by kind.States others = (word_said W others).0
+    by kind.Reset others = (word_said W others).1
+    by kind.End others = tt
+    by kind.Row others = row_said W words are
+    by kind.Other others = tt
+
+-- headers
+
+none-shaped : (P : MachineRow → Type 0) (rows : List MachineRow) → (length rows == 0) ≡ true → AllByRecursion P rows
 none-shaped P [] e = tt
-none-shaped P (row ∷ rows) e = absurd (omega (arith, e))
+none-shaped P (row ∷ rows) e = absurd (let no : length (row ∷ rows) ≡ 0 = grind (arith, nat_tests) in omega (arith, no))
 
-count-first : (told : Option ℕ) (rows number : ℕ) (words : List (List ℕ)) → count_fault told rows number words ≡ None → rows ≡ 0
-unfolding count_fault
-count-first told rows number words e =
-    let off = when-not (not (is_missing told) || not (rows == 0) || is_missing (count_in words)) (BadHeader number) e in
-    let either = or-first (not (is_missing told) || not (rows == 0)) (is_missing (count_in words)) off in
-    zero-test rows (not-not (rows == 0) (or-last (not (is_missing told)) (not (rows == 0)) either))
+count-first : (given : Option ℕ) (draft : Draft) (number : ℕ) → count_fault given draft number ≡ None → (length draft.rows == 0) ≡ true
+count-first given draft number e = by (is_missing given) (length draft.rows == 0) e
+  where
+    by : (a b : Bool) → when (not a || not b) (BadHeader number) ≡ None → b ≡ true
+    by a true e = refl
+    by true false e = absurd (let no : Some (BadHeader number) ≡ None = e in cc)
+    by false false e = absurd (let no : Some (BadHeader number) ≡ None = e in cc)
 
 -- rows
-
-below-test : (rows : ℕ) → nat_le MAX_MACHINE_ROWS rows ≡ false → rows < MAX_MACHINE_ROWS
-below-test rows e = grind (arith, nat_tests)
-
-row-few : (inputs outputs : Option ℕ) (states : List (List ℕ)) (rows number : ℕ) (all : List (List ℕ)) → row_fault inputs outputs states rows number all ≡ None → rows < MAX_MACHINE_ROWS
-unfolding row_fault form_fault
-row-few inputs outputs states rows number all e =
-    let form = none-either (form_fault inputs outputs rows number all) (when (nat_lt MAX_STATES (length (with_states states (named_states all)))) (Limit limit.States (MAX_STATES + 1))) e in
-    let behind = none-later (when (is_missing inputs || is_missing outputs) (BadHeader number)) (when (not (is_row_of inputs outputs all)) (BadRow number) ∷ long_fault (state_words all) ∷ when (nat_le MAX_MACHINE_ROWS rows) (Limit limit.Rows (MAX_MACHINE_ROWS + 1)) ∷ []) form in
-    let names = none-later (when (not (is_row_of inputs outputs all)) (BadRow number)) (long_fault (state_words all) ∷ when (nat_le MAX_MACHINE_ROWS rows) (Limit limit.Rows (MAX_MACHINE_ROWS + 1)) ∷ []) behind in
-    let last = none-later (long_fault (state_words all)) (when (nat_le MAX_MACHINE_ROWS rows) (Limit limit.Rows (MAX_MACHINE_ROWS + 1)) ∷ []) names in
-    below-test rows (when-not (nat_le MAX_MACHINE_ROWS rows) (Limit limit.Rows (MAX_MACHINE_ROWS + 1)) (none-first (when (nat_le MAX_MACHINE_ROWS rows) (Limit limit.Rows (MAX_MACHINE_ROWS + 1))) [] last))
-
-short-test : (len : ℕ) → nat_lt MAX_NAME len ≡ false → len ≤ MAX_NAME
-short-test len e = grind (arith, nat_tests)
 
 all_short : (names : List (List ℕ)) → long_fault names ≡ None → AllByRecursion IsShort names
 unfolding long_name
@@ -143,37 +187,13 @@ all_short (name ∷ names) e = by (nat_lt MAX_NAME (length name)) refl e (all_sh
         → option_map (λ len. Limit limit.Name len) (option_map (λ (name : List ℕ). length name) (cond b (Some name) (find (λ (name : List ℕ). nat_lt MAX_NAME (length name)) names))) ≡ None
         → (long_fault names ≡ None → AllByRecursion IsShort names) → AllByRecursion IsShort (name ∷ names)
     by true t long rec = absurd (let no : Some (Limit limit.Name (length name)) ≡ None = long in cc)
-    by false t long rec = (short-test (length name) t, rec long)
+    by false t long rec = let few : length name ≤ MAX_NAME = grind (arith, nat_tests) in (few, rec long)
 
-row-short : (inputs outputs : Option ℕ) (states : List (List ℕ)) (rows number : ℕ) (all : List (List ℕ)) → row_fault inputs outputs states rows number all ≡ None → AllByRecursion IsShort (state_words all)
-unfolding row_fault form_fault
-row-short inputs outputs states rows number all e =
-    let form = none-either (form_fault inputs outputs rows number all) (when (nat_lt MAX_STATES (length (with_states states (named_states all)))) (Limit limit.States (MAX_STATES + 1))) e in
-    let behind = none-later (when (is_missing inputs || is_missing outputs) (BadHeader number)) (when (not (is_row_of inputs outputs all)) (BadRow number) ∷ long_fault (state_words all) ∷ when (nat_le MAX_MACHINE_ROWS rows) (Limit limit.Rows (MAX_MACHINE_ROWS + 1)) ∷ []) form in
-    let names = none-later (when (not (is_row_of inputs outputs all)) (BadRow number)) (long_fault (state_words all) ∷ when (nat_le MAX_MACHINE_ROWS rows) (Limit limit.Rows (MAX_MACHINE_ROWS + 1)) ∷ []) behind in
-    all_short (state_words all) (none-first (long_fault (state_words all)) (when (nat_le MAX_MACHINE_ROWS rows) (Limit limit.Rows (MAX_MACHINE_ROWS + 1)) ∷ []) names)
-
-none-other : (one other : Option KissFault) → option_or one other ≡ None → other ≡ None
-none-other None other e = e
-none-other (Some fault) other e = absurd (let no : Some fault ≡ None = e in cc)
-
-many-test : (states : ℕ) → nat_lt MAX_STATES states ≡ false → states ≤ MAX_STATES
-many-test states e = grind (arith, nat_tests)
-
-row-limited : (inputs outputs : Option ℕ) (states : List (List ℕ)) (rows number : ℕ) (all : List (List ℕ)) → row_fault inputs outputs states rows number all ≡ None → length (with_states states (named_states all)) ≤ MAX_STATES
-unfolding row_fault
-row-limited inputs outputs states rows number all e =
-    let count = length (with_states states (named_states all)) in
-    many-test count (when-not (nat_lt MAX_STATES count) (Limit limit.States (MAX_STATES + 1)) (none-other (form_fault inputs outputs rows number all) (when (nat_lt MAX_STATES count) (Limit limit.States (MAX_STATES + 1))) e))
-
-same-width : (len width : ℕ) → (len == width) ≡ true → width ≡ len
-same-width len width e = grind (arith, nat_tests)
-
-cube_width : (told : Option ℕ) (bytes : List ℕ) → is_cube told bytes ≡ true → told ≡ Some (length (map character_of bytes))
-cube_width None bytes e = absurd (let no : false ≡ true = e in cc)
-cube_width (Some width) bytes e =
-    let len : length (map character_of bytes) ≡ length bytes = length-map bytes character_of in
-    ap Some (same-width (length bytes) width (and_parts (length bytes == width) (list_all is_character bytes) e).0 ∙ sym len)
+cube_width : (given : Option ℕ) (cube : List ℕ) → is_wide given cube ≡ true → given ≡ Some (length (map character_of cube))
+cube_width None cube e = absurd (let no : false ≡ true = e in cc)
+cube_width (Some width) cube e =
+    let same : width ≡ length cube = grind (arith, nat_tests) in
+    ap Some (same ∙ sym (length-map cube character_of))
 
 kept_named : (words : List (List ℕ)) → AllByRecursion (λ state. is_any state ≡ false) (kept words)
 kept_named [] = tt
@@ -199,144 +219,77 @@ option-or-none : {A : Type 0} (o : Option A) → option_or o None ≡ o
 option-or-none None = refl
 option-or-none (Some a) = refl
 
-good_row : (W : OfWords) (draft : Draft) (input current next output : List ℕ) → IsGood W draft → W current → W next
-    → is_row_of draft.inputs draft.outputs (input ∷ current ∷ next ∷ output ∷ []) ≡ true → length draft.rows < MAX_MACHINE_ROWS
-    → length (with_states draft.states (kept (current ∷ next ∷ []))) ≤ MAX_STATES → AllByRecursion IsShort (current ∷ next ∷ [])
-    → IsGood W (record draft {
-      states = with_states draft.states (kept (current ∷ next ∷ []));
-      rows = draft.rows ++ row_of (with_states draft.states (kept (current ∷ next ∷ []))) (input ∷ current ∷ next ∷ output ∷ []);
-    })
-unfolding first_mentions
-good_row W draft input current next output good one other is few limited short =
+good_row : (W : OfWords) (draft : Draft) (number : ℕ) (input current next output : List ℕ) → IsGood W draft → W current × W next → form_fault draft number (Row input current next output) ≡ None
+    → limit_fault (with_said (Row input current next output) draft) ≡ None → IsGood W (with_said (Row input current next output) draft)
+unfolding first_mentions form_fault limit_fault
+good_row W draft number input current next output good are none small =
     let after = with_states draft.states (kept (current ∷ next ∷ [])) in
-    let row : MachineRow = record { input = map character_of input; current = state_of after current; next = state_of after next; output = map character_of output } in
-    let cubes = and_parts (is_cube draft.inputs input) (is_cube draft.outputs output) is in
+    let row : MachineRow = row_of after input current next output in
+    let wide = is_wide draft.inputs input && is_wide draft.outputs output in
+    let causes = none_each (ports_fault draft number ∷ when (not wide) (BadRow number) ∷ long_fault (current ∷ next ∷ []) ∷ []) none in
+    let many = Limit limit.Rows (MAX_MACHINE_ROWS + 1) in
+    let states = Limit limit.States (MAX_STATES + 1) in
+    let limits = none_each (when (nat_lt MAX_MACHINE_ROWS (length (draft.rows ++ row ∷ []))) many ∷ when (nat_lt MAX_STATES (length after)) states ∷ []) small in
+    let cubes = and_parts (is_wide draft.inputs input) (is_wide draft.outputs output) (held wide (BadRow number) causes.1.0) in
     let longer = with_longer draft.states (kept (current ∷ next ∷ [])) in
     let mentions : flat_map mentioned_by (draft.rows ++ row ∷ []) ≡ flat_map mentioned_by draft.rows ++ mentioned_by row =
     flat_map-append mentioned_by draft.rows (row ∷ []) ∙ ap (λ more. flat_map mentioned_by draft.rows ++ more) (append-nil (mentioned_by row)) in
     let firsts : currents (draft.rows ++ row ∷ []) ≡ currents draft.rows ++ currents (row ∷ []) = filter_map-append (λ (one : MachineRow). one.current) draft.rows (row ∷ []) in
     let last : first_item (currents (row ∷ [])) ≡ state_of after current = one-first row (state_of after current) [] refl ∙ option-or-none (state_of after current) in
+    let body = good.body in
     record {
       inputs = good.inputs;
       outputs = good.outputs;
-      words = with_keeps W draft.states (kept (current ∷ next ∷ [])) good.words (all_kept W (λ word. not (is_any word)) (current ∷ next ∷ []) (one, (other, tt)));
-      once = with_once draft.states (kept (current ∷ next ∷ [])) good.once;
-      named = with_keeps (λ state. is_any state ≡ false) draft.states (kept (current ∷ next ∷ [])) good.named (kept_named (current ∷ next ∷ []));
-      in_order = ap (first_mentions []) mentions
-          ∙ mentions_append [] (flat_map mentioned_by draft.rows) (mentioned_by row)
-          ∙ ap (λ known. first_mentions known (mentioned_by row)) good.in_order
-          ∙ words_mentioned draft.states current next after refl;
-      within = λ place e.
-          first_less (length after) (currents draft.rows) (currents (row ∷ []))
-          (λ k at. let less : k < length draft.states = good.within k at in omega (arith, less, longer))
-          (λ k at. state_within after current k (sym last ∙ at))
-          place (ap first_item (sym firsts) ∙ e);
       shaped = all_append (HasWidths draft.inputs draft.outputs) draft.rows (row ∷ []) good.shaped ((cube_width draft.inputs input cubes.0, cube_width draft.outputs output cubes.1), tt);
-      few = omega (arith, few, length-append draft.rows (row ∷ []));
-      limited = limited;
-      short = with_keeps IsShort draft.states (kept (current ∷ next ∷ [])) good.short (all_kept IsShort (λ word. not (is_any word)) (current ∷ next ∷ []) short);
+      body = record {
+        words = with_keeps W draft.states (kept (current ∷ next ∷ [])) body.words (all_kept W (λ word. not (is_any word)) (current ∷ next ∷ []) (are.0, (are.1, tt)));
+        once = with_once draft.states (kept (current ∷ next ∷ [])) body.once;
+        named = with_keeps (λ state. is_any state ≡ false) draft.states (kept (current ∷ next ∷ [])) body.named (kept_named (current ∷ next ∷ []));
+        in_order = ap (first_mentions []) mentions
+            ∙ mentions_append [] (flat_map mentioned_by draft.rows) (mentioned_by row)
+            ∙ ap (λ known. first_mentions known (mentioned_by row)) body.in_order
+            ∙ words_mentioned draft.states current next after refl;
+        within = λ place e.
+            first_less (length after) (currents draft.rows) (currents (row ∷ []))
+            (λ k at. let less : k < length draft.states = body.within k at in omega (arith, less, longer))
+            (λ k at. state_within after current k (sym last ∙ at))
+            place (ap first_item (sym firsts) ∙ e);
+        few = within MAX_MACHINE_ROWS (length (draft.rows ++ row ∷ [])) many limits.0;
+        limited = within MAX_STATES (length after) states limits.1.0;
+        short = with_keeps IsShort draft.states (kept (current ∷ next ∷ [])) body.short (all_kept IsShort (λ word. not (is_any word)) (current ∷ next ∷ []) (all_short (current ∷ next ∷ []) causes.1.1.0));
+      };
     }
 
-good_words : (W : OfWords) (draft : Draft) (all : List (List ℕ)) → IsGood W draft → AllByRecursion W all → is_row_of draft.inputs draft.outputs all ≡ true → length draft.rows < MAX_MACHINE_ROWS
-    → length (with_states draft.states (named_states all)) ≤ MAX_STATES → AllByRecursion IsShort (state_words all)
-    → IsGood W (record draft { states = with_states draft.states (named_states all); rows = draft.rows ++ row_of (with_states draft.states (named_states all)) all })
-unfolding named_states
-good_words W draft (input ∷ current ∷ next ∷ output ∷ []) good words is few limited short =
-    good_row W draft input current next output good words.1.0 words.1.1.0 is few limited short
-good_words W draft [] good words is few limited short = absurd (let no : false ≡ true = is in cc)
-good_words W draft (a ∷ []) good words is few limited short = absurd (let no : false ≡ true = is in cc)
-good_words W draft (a ∷ b ∷ []) good words is few limited short = absurd (let no : false ≡ true = is in cc)
-good_words W draft (a ∷ b ∷ c ∷ []) good words is few limited short = absurd (let no : false ≡ true = is in cc)
-good_words W draft (a ∷ b ∷ c ∷ d ∷ e ∷ more) good words is few limited short = absurd (let no : false ≡ true = is in cc)
+-- statements
 
--- lines
-
-good_line : (W : OfWords) (kind : Keyword) (draft : Draft) (number : ℕ) (words all : List (List ℕ)) → IsGood W draft → AllByRecursion W all → draft_fault kind draft number words all ≡ None → IsGood W (with_line kind draft words all)
-good_line W Inputs draft number words all good are e =
-    record {
-      inputs = counts_small words;
-      outputs = good.outputs;
-      words = good.words;
-      once = good.once;
-      named = good.named;
-      in_order = good.in_order;
-      within = good.within;
-      shaped = none-shaped (HasWidths (count_in words) draft.outputs) draft.rows (count-first draft.inputs (length draft.rows) number words e);
-      few = good.few;
-      limited = good.limited;
-      short = good.short;
-    }
-good_line W Outputs draft number words all good are e =
-    record {
-      inputs = good.inputs;
-      outputs = counts_small words;
-      words = good.words;
-      once = good.once;
-      named = good.named;
-      in_order = good.in_order;
-      within = good.within;
-      shaped = none-shaped (HasWidths draft.inputs (count_in words)) draft.rows (count-first draft.outputs (length draft.rows) number words e);
-      few = good.few;
-      limited = good.limited;
-      short = good.short;
-    }
-good_line W Products draft number words all good are e = good
-good_line W States draft number words all good are e = good
-good_line W Reset draft number words all good are e =
-    record {
-      inputs = good.inputs;
-      outputs = good.outputs;
-      words = good.words;
-      once = good.once;
-      named = good.named;
-      in_order = good.in_order;
-      within = good.within;
-      shaped = good.shaped;
-      few = good.few;
-      limited = good.limited;
-      short = good.short;
-    }
-good_line W End draft number words all good are e = good
-good_line W Row draft number words all good are e =
-    good_words W draft all good are (row-new draft.inputs draft.outputs draft.states (length draft.rows) number all e) (row-few draft.inputs draft.outputs draft.states (length draft.rows) number all e)
-    (row-limited draft.inputs draft.outputs draft.states (length draft.rows) number all e) (row-short draft.inputs draft.outputs draft.states (length draft.rows) number all e)
-good_line W Other draft number words all good are e = absurd (let no : Some (BadHeader number) ≡ None = e in cc)
+pub good_said : (W : OfWords) (statement : Said) (draft : Draft) (number : ℕ) → IsGood W draft → IsSaid W statement → form_fault draft number statement ≡ None → limit_fault (with_said statement draft) ≡ None → IsGood W (with_said statement draft)
+unfolding form_fault
+good_said W (Inputs count) draft number good is e small =
+    let free = none-shaped (HasWidths (Some count) draft.outputs) draft.rows (count-first draft.inputs draft number e) in
+    record { inputs = is; outputs = good.outputs; shaped = free; body = good.body }
+good_said W (Outputs count) draft number good is e small =
+    let free = none-shaped (HasWidths draft.inputs (Some count)) draft.rows (count-first draft.outputs draft number e) in
+    record { inputs = good.inputs; outputs = is; shaped = free; body = good.body }
+good_said W (Reset name) draft number good is e small = record { inputs = good.inputs; outputs = good.outputs; shaped = good.shaped; body = good.body }
+good_said W (Row input current next output) draft number good is e small = good_row W draft number input current next output good is e small
+good_said W Nothing draft number good is e small = good
+good_said W NoRow draft number good is e small = good
+good_said W NoHeader draft number good is e small = good
 
 pub good_nothing : (W : OfWords) → IsGood W no_lines
 unfolding all_different first_mentions
 good_nothing W = record {
   inputs = tt;
   outputs = tt;
-  words = tt;
-  once = refl;
-  named = tt;
-  in_order = refl;
-  within = λ place e. absurd (let no : None ≡ Some place = e in cc);
   shaped = tt;
-  few = omega arith;
-  limited = omega arith;
-  short = tt;
+  body = record {
+    words = tt;
+    once = refl;
+    named = tt;
+    in_order = refl;
+    within = λ place e. absurd (let no : None ≡ Some place = e in cc);
+    few = omega arith;
+    limited = omega arith;
+    short = tt;
+  };
 }
-
--- a result without a fault
-abbrev pub ok : {A : Type 0} → A → Result A KissFault
-ok a = Ok a
-
-pub same-ok : {A : Type 0} (a b : A) → ok a ≡ ok b → a ≡ b
-same-ok a b e = cc
-
-pub good_all : (W : OfWords) (lines : List Entry) (draft last : Draft) → IsGood W draft → AllByRecursion (λ (line : Entry). AllByRecursion W line.words) lines → take_entries draft lines ≡ Ok last → IsGood W last
-unfolding take_entries
-good_all W [] draft last good are e = subst (IsGood W) (same-ok draft last e) good
-good_all W (line ∷ lines) draft last good are e =
-    let next = with_line (kind_of line) draft (other_words line.words) line.words in
-    by (draft_fault (kind_of line) draft line.number (other_words line.words) line.words) refl
-    (λ none rest. good_all W lines next last (good_line W (kind_of line) draft line.number (other_words line.words) line.words good are.0 none) are.1 rest)
-  where
-    by : (cause : Option KissFault) → draft_fault (kind_of line) draft line.number (other_words line.words) line.words ≡ cause
-        → (draft_fault (kind_of line) draft line.number (other_words line.words) line.words ≡ None → take_entries (with_line (kind_of line) draft (other_words line.words) line.words) lines ≡ Ok last → IsGood W last)
-        → IsGood W last
-    by None c rec =
-        rec c (sym (ap (λ (r : Result Draft KissFault). onward r (λ next. take_entries next lines)) (taken-by draft line None c)) ∙ e)
-    by (Some fault) c rec =
-        absurd (let no : Err fault ≡ Ok last = sym (ap (λ (r : Result Draft KissFault). onward r (λ next. take_entries next lines)) (taken-by draft line (Some fault) c)) ∙ e in cc)

@@ -1,6 +1,6 @@
+pub mod Told
 pub mod Walk
 pub mod Places
-pub mod Agreement
 pub mod Firsts
 pub mod MadeNames
 pub mod Ports

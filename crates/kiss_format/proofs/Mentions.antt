@@ -8,8 +8,7 @@ use Rattle.std.proofs.lemmas.Slice.Eq.{bytes_eq-Decides}
 use Rattle.std.proofs.lemmas.Bool.{and_parts, or_parts}
 use Rattle.circuit_model.specs.Names.{has, all_different}
 use Rattle.circuit_model.specs.MachineSoundness.{is_any, first_mentions}
-use Rattle.kiss_format.specs.Lines.{with_state, with_states}
-use Rattle.kiss_format.specs.Reader.{state_of, place_of}
+use Rattle.kiss_format.specs.Lines.{with_state, with_states, place_of, state_of}
 use Rattle.kiss_format.proofs.Places.{kept, states_append, found-at, found-within, any-last, has-first, state-stays}
 
 -- facts of all items

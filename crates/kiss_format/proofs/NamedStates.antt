@@ -11,8 +11,7 @@ use Rattle.std.proofs.lemmas.Bool.{and_parts}
 use Rattle.circuit_model.specs.Names.{has, all_different}
 use Rattle.circuit_model.specs.MachineSoundness.{is_any, first_mentions}
 use Rattle.circuit_model.specs.MachineText.{state_at, state_word}
-use Rattle.kiss_format.specs.Lines.{with_state, with_states}
-use Rattle.kiss_format.specs.Reader.{state_of, place_of}
+use Rattle.kiss_format.specs.Lines.{with_state, with_states, place_of, state_of}
 use Rattle.kiss_format.proofs.Mentions.{not-true, bytes_turned, both_kept, mention_old, mention_new, range_lacks}
 use Rattle.kiss_format.proofs.Places.{kept, found-at}
 

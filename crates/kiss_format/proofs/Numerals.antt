@@ -7,7 +7,7 @@ use Rattle.std.proofs.lemmas.Bool.Decides.{nat_tests}
 use Rattle.sis_base.specs.Written.{is_word, is_word_byte}
 use Rattle.sis_text.specs.Words.{begins_with}
 use Rattle.sis_text.specs.Decimals.{is_digit, number_of}
-use Rattle.kiss_format.specs.Lines.{count_of}
+use Rattle.kiss_format.specs.Statements.{count_of}
 use Rattle.kiss_format.proofs.Ports.{numeral_bytes}
 use Rattle.sis_base.specs.declared.limits.TheConstants.{MAX_PORTS}
 

@@ -6,8 +6,7 @@ use Rattle.std.proofs.lemmas.Bool.Decides.{nat_tests}
 use Rattle.std.proofs.lemmas.Slice.Eq.{bytes_eq-Decides}
 use Rattle.circuit_model.specs.Names.{has}
 use Rattle.circuit_model.specs.MachineSoundness.{is_any}
-use Rattle.kiss_format.specs.Lines.{named_states, with_state, with_states}
-use Rattle.kiss_format.specs.Reader.{state_of, place_of, row_of}
+use Rattle.kiss_format.specs.Lines.{with_state, with_states, place_of, state_of}
 
 pub states_append : (states names others : List (List ℕ)) → with_states states (names ++ others) ≡ with_states (with_states states names) others
 unfolding with_states
@@ -107,23 +106,3 @@ kept words = filter (λ word. not (is_any word)) words
 pub has-first : (states : List (List ℕ)) (word : List ℕ) (words : List (List ℕ)) → is_any word ≡ false → has (with_states states (kept (word ∷ words))) word ≡ true
 unfolding with_states
 has-first states word words e = rw e (all-have (with_state states word) (kept words) word (has-new states word))
-
-has-second : (states : List (List ℕ)) (first word : List ℕ) → is_any word ≡ false → has (with_states states (kept (first ∷ word ∷ []))) word ≡ true
-unfolding with_states
-has-second states first word e = by (is_any first) refl
-  where
-    by : (b : Bool) → is_any first ≡ b → has (with_states states (kept (first ∷ word ∷ []))) word ≡ true
-    by true f = rw f (has-first states word [] e)
-    by false f = rw f (has-first (with_state states first) word [] e)
-
-pub row_stays : (states more all : List (List ℕ)) → row_of (with_states (with_states states (named_states all)) more) all ≡ row_of (with_states states (named_states all)) all
-unfolding named_states
-row_stays states more (input ∷ current ∷ next ∷ output ∷ []) =
-    let one = state-stays (with_states states (kept (current ∷ next ∷ []))) more current (has-first states current (next ∷ [])) in
-    let other = state-stays (with_states states (kept (current ∷ next ∷ []))) more next (has-second states current next) in
-    rw (one, other) refl
-row_stays states more [] = refl
-row_stays states more (a ∷ []) = refl
-row_stays states more (a ∷ b ∷ []) = refl
-row_stays states more (a ∷ b ∷ c ∷ []) = refl
-row_stays states more (a ∷ b ∷ c ∷ d ∷ e ∷ words) = refl

@@ -1,6 +1,7 @@
 -- What is read is sound.
 use Rattle.std.proofs.Common.{◌≡◌, ℕ, suc, ◌+◌, ◌<◌, ◌≤◌, Bool, true, false, not, ◌&&◌, ◌||◌, ◌==◌, Option, Some, None, Result, Ok, Err, List, [], ◌∷◌, ◌++◌, take, length, codes, unwrap_or, bytes_eq, decimal, zero, IfOk, refl, sym, ◌∙◌, ap, subst, arith}
 use Rattle.std.specs.List.{All, AllByRecursion, list_all, prefix_len}
+use Rattle.std.specs.Option.{option_or}
 use Rattle.std.proofs.lemmas.List.Elements.{recursion_from_All}
 use Rattle.std.proofs.lemmas.List.FromFn.{length-map-range_with_len}
 use Rattle.std.proofs.lemmas.List.Quantifiers.{position-Some}
@@ -13,21 +14,28 @@ use Rattle.circuit_model.specs.declared.machine.Clash.{Clash}
 use Rattle.circuit_model.specs.declared.machine.Machine.{Machine}
 use Rattle.circuit_model.specs.declared.machine.MachineRow.{MachineRow}
 use Rattle.kiss_format.specs.Keywords.{before_end, kind_of, is_end_kind}
-use Rattle.kiss_format.specs.Lines.{first_item}
-use Rattle.kiss_format.specs.Reader.{machine_with, reset_place, reset_name, by_clash, by_place, placed, at_place, read_machine_lines, Reads}
+use Rattle.kiss_format.specs.Statements.{Said, said_by}
+use Rattle.kiss_format.specs.Lines.{first_item, told, states_in, rows_in, form_fault, limit_fault, line_fault}
+use Rattle.kiss_format.specs.Reader.{machine_with, reset_place, reset_name, by_clash, by_place, placed, at_place, whole, unless, read_after, read_machine_lines, Reads}
 use Rattle.kiss_format.specs.Trips.{IsWithinLimits}
-use Rattle.kiss_format.specs.Steps.{take_entries, no_lines, finished, finish}
 use Rattle.kiss_format.specs.declared.draft.Draft.{Draft}
 use Rattle.kiss_format.specs.declared.fault.KissFault.{KissFault}
 use Rattle.kiss_format.specs.declared.fault.KissFault.TheVariants.{RowClash, NoReset, NoRows}
 use Rattle.kiss_format.specs.declared.fault.ReadFault.{ReadFault}
 use Rattle.kiss_format.specs.declared.fault.ReadFault.TheVariants.{Fault, Memory}
-use Rattle.kiss_format.proofs.Agreement.{all_agree}
-use Rattle.kiss_format.proofs.Drafts.{IsCount, OfWords, HasWidths, IsGood, IsShort, good_nothing, good_all, ok, same-ok}
+use Rattle.kiss_format.proofs.Told.{told_more}
+use Rattle.kiss_format.proofs.Drafts.{IsCount, OfWords, HasWidths, IsGood, IsShort, line_said, good_said, good_nothing}
 use Rattle.kiss_format.proofs.Firsts.{currents}
 use Rattle.kiss_format.proofs.Mentions.{all_append}
 use Rattle.kiss_format.proofs.Ports.{made_are_words, made_are_short, ports_differ}
 use Rattle.sis_base.specs.declared.limits.TheConstants.{MAX_PORTS}
+
+-- a result without a fault
+abbrev ok : {A : Type 0} → A → Result A KissFault
+ok a = Ok a
+
+same-ok : {A : Type 0} (a b : A) → ok a ≡ ok b → a ≡ b
+same-ok a b e = cc
 
 -- the parts of a machine that is read
 
@@ -91,18 +99,18 @@ sound_at draft place good e =
     let in_words = made_are_words (codes "IN_") 0 inputs refl (omega (arith, counts.0.1)) in
     let out_words = made_are_words (codes "OUT_") 0 outputs refl (omega (arith, counts.1.1)) in
     record {
-      words = (refl, all_append IsText machine.inputs (machine.outputs ++ draft.states) in_words (all_append IsText machine.outputs draft.states out_words good.words));
+      words = (refl, all_append IsText machine.inputs (machine.outputs ++ draft.states) in_words (all_append IsText machine.outputs draft.states out_words good.body.words));
       ports_once = ports_differ inputs outputs counts.0.1 counts.1.1;
       some_inputs = omega (arith, ins, counts.0.0);
       few_inputs = omega (arith, ins, counts.0.1);
       some_outputs = omega (arith, outs, counts.1.0);
       few_outputs = omega (arith, outs, counts.1.1);
       some_rows = parts.0;
-      few_rows = let few = good.few in omega (arith, few);
-      states_once = good.once;
-      states_named = good.named;
-      in_order = good.in_order;
-      reset = reset_within draft.reset draft.states draft.rows place good.within parts.1;
+      few_rows = let few = good.body.few in omega (arith, few);
+      states_once = good.body.once;
+      states_named = good.body.named;
+      in_order = good.body.in_order;
+      reset = reset_within draft.reset draft.states draft.rows place good.body.within parts.1;
       shaped = rows_shaped machine draft.inputs draft.outputs draft.rows ins outs good.shaped;
       apart = parts.2;
     }
@@ -115,14 +123,10 @@ at_parts : (P : Machine → Type 0) (r : Result ℕ KissFault) (make : ℕ → M
 at_parts P (Ok place) make machine e holds = subst P (same-ok (make place) machine e) (holds place refl)
 at_parts P (Err fault) make machine e holds = absurd (let no : Err fault ≡ ok machine = e in cc)
 
-draft_holds : (W : OfWords) (P : Machine → Type 0) (draft : Draft) (machine : Machine) → OfDrafts W P → IsGood W draft → finished draft ≡ Ok machine → P machine
-unfolding finished
+draft_holds : (W : OfWords) (P : Machine → Type 0) (draft : Draft) (machine : Machine) → OfDrafts W P → IsGood W draft → whole draft ≡ Ok machine → P machine
+unfolding whole
 draft_holds W P draft machine holds good e =
     at_parts P (placed draft.reset draft.states draft.rows) (machine_with draft.inputs draft.outputs draft.states draft.rows) machine e (λ place at. holds draft place good at)
-
-finish_holds : (W : OfWords) (P : Machine → Type 0) (taken : Result Draft KissFault) (machine : Machine) → OfDrafts W P → ((draft : Draft) → taken ≡ Ok draft → IsGood W draft) → finish taken ≡ Ok machine → P machine
-finish_holds W P (Ok draft) machine holds good e = draft_holds W P draft machine holds (good draft refl) e
-finish_holds W P (Err fault) machine holds good e = absurd (let no : Err fault ≡ ok machine = e in cc)
 
 -- the words of lines
 
@@ -137,13 +141,27 @@ all_taken P zero xs h = tt
 all_taken P (suc count) [] h = tt
 all_taken P (suc count) (x ∷ xs) h = (h.0, all_taken P count xs h.1)
 
+lines_hold : (W : OfWords) (P : Machine → Type 0) (lines : List Entry) (before : List Said) (machine : Machine) → OfDrafts W P → IsGood W (told before) → AreOf W lines → read_after before lines ≡ Ok machine → P machine
+unfolding read_after line_fault
+lines_hold W P [] before machine holds good are e = draft_holds W P (told before) machine holds good e
+lines_hold W P (line ∷ lines) before machine holds good are e =
+    let number = line.number in
+    let statement = said_by line.words in
+    let more = told_more statement before in
+    by (form_fault (told before) number statement) (limit_fault (told (statement ∷ before))) e refl refl
+    (λ right small. lines_hold W P lines (statement ∷ before) machine holds (subst (IsGood W) (sym more) (good_said W statement (told before) number good (line_said W line.words are.0) right (ap limit_fault (sym more) ∙ small))) are.1)
+  where
+    by : (a b : Option KissFault) → unless (option_or a b) (read_after (said_by line.words ∷ before) lines) ≡ Ok machine → form_fault (told before) line.number (said_by line.words) ≡ a → limit_fault (told (said_by line.words ∷ before)) ≡ b
+        → (form_fault (told before) line.number (said_by line.words) ≡ None → limit_fault (told (said_by line.words ∷ before)) ≡ None → read_after (said_by line.words ∷ before) lines ≡ Ok machine → P machine) → P machine
+    by None None e right small rec = rec right small e
+    by None (Some fault) e right small rec = absurd (let no : Err fault ≡ ok machine = e in cc)
+    by (Some fault) b e right small rec = absurd (let no : Err fault ≡ ok machine = e in cc)
+
 pub read_holds : (W : OfWords) (P : Machine → Type 0) (lines : List Entry) (machine : Machine) → OfDrafts W P → AreOf W lines → read_machine_lines lines ≡ Ok machine → P machine
-unfolding read_machine_lines before_end
+unfolding read_machine_lines before_end told states_in rows_in
 read_holds W P lines machine holds are e =
-    let front = before_end lines in
-    finish_holds W P (take_entries no_lines front) machine holds
-    (λ draft taken. good_all W front no_lines draft (good_nothing W) (all_taken (λ (line : Entry). AllByRecursion W line.words) (prefix_len (λ line. not (is_end_kind (kind_of line))) lines) lines are) taken)
-    (all_agree front ∙ e)
+    lines_hold W P (before_end lines) [] machine holds (good_nothing W)
+    (all_taken (λ (line : Entry). AllByRecursion W line.words) (prefix_len (λ line. not (is_end_kind (kind_of line))) lines) lines are) e
 
 -- what holds of what is read, whatever the words
 
@@ -160,7 +178,7 @@ any_lines (line ∷ lines) = (any_words line.words, any_lines lines)
 
 pub read_limited : (lines : List Entry) (machine : Machine) → read_machine_lines lines ≡ Ok machine → IsWithinLimits machine
 read_limited lines machine e =
-    read_holds IsAny IsWithinLimits lines machine (λ draft place good at. record { rows = good.few; states = good.limited; short = good.short }) (any_lines lines) e
+    read_holds IsAny IsWithinLimits lines machine (λ draft place good at. record { rows = good.body.few; states = good.body.limited; short = good.body.short }) (any_lines lines) e
 
 short_at : (draft : Draft) (place : ℕ) → IsGood IsAny draft → placed draft.reset draft.states draft.rows ≡ Ok place → AllByRecursion IsShort (all_names (machine_with draft.inputs draft.outputs draft.states draft.rows place))
 short_at draft place good e =
@@ -169,7 +187,7 @@ short_at draft place good e =
     let counts = first_widths draft.inputs draft.outputs draft.rows parts.0 good.shaped good.inputs good.outputs in
     let ins = made_are_short (codes "IN_") 0 (unwrap_or draft.inputs 0) (omega arith) (omega (arith, counts.0.1)) in
     let outs = made_are_short (codes "OUT_") 0 (unwrap_or draft.outputs 0) (omega arith) (omega (arith, counts.1.1)) in
-    (omega arith, all_append IsShort machine.inputs (machine.outputs ++ draft.states) ins (all_append IsShort machine.outputs draft.states outs good.short))
+    (omega arith, all_append IsShort machine.inputs (machine.outputs ++ draft.states) ins (all_append IsShort machine.outputs draft.states outs good.body.short))
 
 pub read_short : (lines : List Entry) (machine : Machine) → read_machine_lines lines ≡ Ok machine → AllByRecursion IsShort (all_names machine)
 read_short lines machine e = read_holds IsAny (λ (one : Machine). AllByRecursion IsShort (all_names one)) lines machine short_at (any_lines lines) e

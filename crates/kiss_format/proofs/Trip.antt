@@ -19,19 +19,18 @@ use Rattle.circuit_model.specs.MachineText.{state_at, state_word, row_line, head
 use Rattle.circuit_model.specs.declared.machine.Machine.{Machine}
 use Rattle.circuit_model.specs.declared.machine.MachineRow.{MachineRow}
 use Rattle.kiss_format.specs.Keywords.{keyword_of, kind_of, is_end_kind, before_end}
-use Rattle.kiss_format.specs.Lines.{count_fault, reset_fault, word_fault, first_of}
-use Rattle.kiss_format.specs.Reader.{made_names, machine_with, placed, place_of, read_all, read_machine_lines}
-use Rattle.kiss_format.specs.Steps.{take_entries, no_lines, finished, finish}
+use Rattle.kiss_format.specs.Statements.{Said, Inputs, Outputs, Reset, Nothing, said_by}
+use Rattle.kiss_format.specs.Lines.{first_of, place_of, told, states_in, rows_in, form_fault, limit_fault}
+use Rattle.kiss_format.specs.Reader.{made_names, machine_with, placed, whole, read_after, read_machine_lines}
 use Rattle.kiss_format.specs.Trips.{IsWithinLimits, plainly_named}
 use Rattle.kiss_format.specs.declared.keyword.Keyword.{Keyword}
-use Rattle.kiss_format.specs.declared.keyword.Keyword.TheVariants.{Inputs, Outputs, Products, States, Reset, Row}
+use Rattle.kiss_format.specs.declared.keyword.Keyword.TheVariants as kind
 use Rattle.kiss_format.specs.declared.draft.Draft.{Draft}
-use Rattle.kiss_format.proofs.Agreement.{all_agree}
 use Rattle.kiss_format.proofs.Mentions.{all_append}
 use Rattle.kiss_format.proofs.NamedStates.{AreNamed, row_stepped, place_back, state_has}
 use Rattle.kiss_format.proofs.Numerals.{count_back, decimal_is_word}
 use Rattle.kiss_format.proofs.Sound.{IsText, AreOfWords, read_holds, read_limited, read_sound, proper_lines, all_weaker}
-use Rattle.kiss_format.proofs.WrittenRows.{entry, row_kind, not_long, draft_at, taken, taken_first, rows_taken}
+use Rattle.kiss_format.proofs.WrittenRows.{entry, row_kind, not_long, draft_at, passes, no_limit, rows_read}
 use Rattle.sis_base.specs.declared.limits.TheConstants.{MAX_NAME}
 
 -- the lines before the end
@@ -53,7 +52,7 @@ unfolding numbered row_line kind_of
 rows_before machine [] number some shaped = end_stops number
 rows_before machine (row ∷ rows) number some shaped =
     let rest = numbered (number + 1) (map (row_line machine.states) rows ++ dotted (codes ".e") [] ∷ []) in
-    passed (entry number (row_line machine.states row)) rest Row (row_kind row.input (let width = shaped.0.input in omega (arith, width, some))) refl
+    passed (entry number (row_line machine.states row)) rest kind.Row (row_kind row.input (let width = shaped.0.input in omega (arith, width, some))) refl
     ∙ ap (λ more. entry number (row_line machine.states row) ∷ more) (rows_before machine rows (number + 1) some shaped.1)
 
 -- the lines before the rows
@@ -83,57 +82,35 @@ front_is : (machine : Machine) → IsSoundMachine machine → before_end (number
 unfolding machine_lines header_lines numbered kind_of keyword_of
 front_is machine sound =
     let rows = numbered 6 (map (row_line machine.states) machine.rows ++ dotted (codes ".e") [] ∷ []) in
-    passed (inputs_line machine) (outputs_line machine ∷ products_line machine ∷ states_line machine ∷ reset_line machine ∷ rows) Inputs refl refl
-    ∙ ap (λ more. inputs_line machine ∷ more) (passed (outputs_line machine) (products_line machine ∷ states_line machine ∷ reset_line machine ∷ rows) Outputs refl refl
-    ∙ ap (λ more. outputs_line machine ∷ more) (passed (products_line machine) (states_line machine ∷ reset_line machine ∷ rows) Products refl refl
-    ∙ ap (λ more. products_line machine ∷ more) (passed (states_line machine) (reset_line machine ∷ rows) States refl refl
-    ∙ ap (λ more. states_line machine ∷ more) (passed (reset_line machine) rows Reset refl refl
+    passed (inputs_line machine) (outputs_line machine ∷ products_line machine ∷ states_line machine ∷ reset_line machine ∷ rows) kind.Inputs refl refl
+    ∙ ap (λ more. inputs_line machine ∷ more) (passed (outputs_line machine) (products_line machine ∷ states_line machine ∷ reset_line machine ∷ rows) kind.Outputs refl refl
+    ∙ ap (λ more. outputs_line machine ∷ more) (passed (products_line machine) (states_line machine ∷ reset_line machine ∷ rows) kind.Products refl refl
+    ∙ ap (λ more. products_line machine ∷ more) (passed (states_line machine) (reset_line machine ∷ rows) kind.States refl refl
+    ∙ ap (λ more. states_line machine ∷ more) (passed (reset_line machine) rows kind.Reset refl refl
     ∙ ap (λ more. reset_line machine ∷ more) (rows_before machine machine.rows 6 sound.some_inputs sound.shaped)))))
 
--- the drafts after each of them
+-- what they say
 
-abbrev with_inputs : Machine → Draft
-with_inputs machine = record { inputs = Some (length machine.inputs); outputs = None; reset = None; states = []; rows = [] }
+abbrev header_statements : Machine → List Said
+header_statements machine = Reset (state_at machine.states machine.reset) ∷ Nothing ∷ Nothing ∷ Outputs (length machine.outputs) ∷ Inputs (length machine.inputs) ∷ []
 
-abbrev with_outputs : Machine → Draft
-with_outputs machine = record { inputs = Some (length machine.inputs); outputs = Some (length machine.outputs); reset = None; states = []; rows = [] }
-
-inputs_taken : (machine : Machine) → IsSoundMachine machine → (lines : List Entry) → take_entries no_lines (inputs_line machine ∷ lines) ≡ take_entries (with_inputs machine) lines
-unfolding kind_of keyword_of count_fault
-inputs_taken machine sound lines =
-    let back = count_back (length machine.inputs) sound.some_inputs sound.few_inputs in
-    taken_first no_lines (with_inputs machine) (inputs_line machine) lines
-    (taken no_lines (inputs_line machine) Inputs refl (rw back refl) ∙ rw back refl)
-
-outputs_taken : (machine : Machine) → IsSoundMachine machine → (lines : List Entry) → take_entries (with_inputs machine) (outputs_line machine ∷ lines) ≡ take_entries (with_outputs machine) lines
-unfolding kind_of keyword_of count_fault
-outputs_taken machine sound lines =
-    let back = count_back (length machine.outputs) sound.some_outputs sound.few_outputs in
-    taken_first (with_inputs machine) (with_outputs machine) (outputs_line machine) lines
-    (taken (with_inputs machine) (outputs_line machine) Outputs refl (rw back refl) ∙ rw back refl)
-
-words_taken : (machine : Machine) (lines : List Entry) → take_entries (with_outputs machine) (products_line machine ∷ states_line machine ∷ lines) ≡ take_entries (with_outputs machine) lines
-unfolding kind_of keyword_of word_fault
-words_taken machine lines =
-    taken_first (with_outputs machine) (with_outputs machine) (products_line machine) (states_line machine ∷ lines) (taken (with_outputs machine) (products_line machine) Products refl refl)
-    ∙ taken_first (with_outputs machine) (with_outputs machine) (states_line machine) lines (taken (with_outputs machine) (states_line machine) States refl refl)
-
-reset_taken : (machine : Machine) → IsSoundMachine machine → IsWithinLimits machine → (lines : List Entry) → take_entries (with_outputs machine) (reset_line machine ∷ lines) ≡ take_entries (draft_at machine 0 []) lines
-unfolding kind_of keyword_of reset_fault first_of
-reset_taken machine sound limits lines =
-    let short = state_has (λ (state : List ℕ). length state ≤ MAX_NAME) machine.states machine.reset limits.short sound.reset in
-    let free = not_long (state_at machine.states machine.reset ∷ []) (short, tt) in
-    taken_first (with_outputs machine) (draft_at machine 0 []) (reset_line machine) lines
-    (taken (with_outputs machine) (reset_line machine) Reset refl (rw free refl))
-
-all_taken : (machine : Machine) → IsSoundMachine machine → IsWithinLimits machine → take_entries no_lines (lines_of machine) ≡ Ok (draft_at machine (length machine.states) machine.rows)
-all_taken machine sound limits =
-    let rows = row_lines machine in
-    inputs_taken machine sound (outputs_line machine ∷ products_line machine ∷ states_line machine ∷ reset_line machine ∷ rows)
-    ∙ outputs_taken machine sound (products_line machine ∷ states_line machine ∷ reset_line machine ∷ rows)
-    ∙ words_taken machine (reset_line machine ∷ rows)
-    ∙ reset_taken machine sound limits rows
-    ∙ rows_taken machine machine.rows [] 0 6 (record { once = sound.states_once; named = sound.states_named }) limits sound.some_inputs sound.shaped (omega arith) sound.in_order (let few = limits.rows in omega (arith, few))
+headers_read : (machine : Machine) → IsSoundMachine machine → IsWithinLimits machine → (lines : List Entry)
+    → read_after [] (inputs_line machine ∷ outputs_line machine ∷ products_line machine ∷ states_line machine ∷ reset_line machine ∷ lines) ≡ read_after (header_statements machine) lines
+unfolding said_by keyword_of form_fault first_of told states_in rows_in
+headers_read machine sound limits lines =
+    let inputs = length machine.inputs in
+    let outputs = length machine.outputs in
+    let name = state_at machine.states machine.reset in
+    let in_back = count_back inputs sound.some_inputs sound.few_inputs in
+    let out_back = count_back outputs sound.some_outputs sound.few_outputs in
+    let free = not_long (name ∷ []) (state_has (λ (state : List ℕ). length state ≤ MAX_NAME) machine.states machine.reset limits.short sound.reset, tt) in
+    let ports : List Said = Outputs outputs ∷ Inputs inputs ∷ [] in
+    let small : (before : List Said) → length (told before).rows ≡ 0 → length (told before).states ≡ 0 → limit_fault (told before) ≡ None = λ before rows states. no_limit (told before) (omega (arith, rows)) (omega (arith, states)) in
+    passes [] (inputs_line machine) (outputs_line machine ∷ products_line machine ∷ states_line machine ∷ reset_line machine ∷ lines) (told []) (Inputs inputs) refl (rw in_back refl) refl (small (Inputs inputs ∷ []) refl refl)
+    ∙ passes (Inputs inputs ∷ []) (outputs_line machine) (products_line machine ∷ states_line machine ∷ reset_line machine ∷ lines) (told (Inputs inputs ∷ [])) (Outputs outputs) refl (rw out_back refl) refl (small ports refl refl)
+    ∙ passes ports (products_line machine) (states_line machine ∷ reset_line machine ∷ lines) (told ports) Nothing refl refl refl (small ports refl refl)
+    ∙ passes (Nothing ∷ ports) (states_line machine) (reset_line machine ∷ lines) (told ports) Nothing refl refl refl (small ports refl refl)
+    ∙ passes (Nothing ∷ Nothing ∷ ports) (reset_line machine) lines (told ports) (Reset name) refl refl (rw free refl) (small (header_statements machine) refl refl)
 
 -- the whole
 
@@ -141,21 +118,22 @@ placed_back : (name : List ℕ) (states : List (List ℕ)) (rows : List MachineR
 placed_back name states [] place some at apart = absurd (omega (arith, some))
 placed_back name states (row ∷ rows) place some at apart = rw (at, apart) refl
 
-finished_back : (machine : Machine) → IsSoundMachine machine → finished (draft_at machine (length machine.states) machine.rows) ≡ Ok (plainly_named machine)
-unfolding finished
+finished_back : (machine : Machine) → IsSoundMachine machine → whole (draft_at machine (length machine.states) machine.rows) ≡ Ok (plainly_named machine)
+unfolding whole
 finished_back machine sound =
-    let whole : take (length machine.states) machine.states ≡ machine.states = take_all (length machine.states) machine.states (omega arith) in
+    let all : take (length machine.states) machine.states ≡ machine.states = take_all (length machine.states) machine.states (omega arith) in
     let name = state_at machine.states machine.reset in
     let at : place_of machine.states name ≡ Some machine.reset =
-    ap (λ states. place_of states name) (sym whole) ∙ place_back machine.states (length machine.states) machine.reset sound.states_once sound.reset sound.reset in
-    rw (whole, placed_back name machine.states machine.rows machine.reset sound.some_rows at sound.apart) refl
+    ap (λ states. place_of states name) (sym all) ∙ place_back machine.states (length machine.states) machine.reset sound.states_once sound.reset sound.reset in
+    rw (all, placed_back name machine.states machine.rows machine.reset sound.some_rows at sound.apart) refl
 
 lines_read : (machine : Machine) → IsSoundMachine machine → IsWithinLimits machine → read_machine_lines (numbered 1 (machine_lines machine)) ≡ Ok (plainly_named machine)
-unfolding read_machine_lines
+unfolding read_machine_lines told states_in rows_in
 lines_read machine sound limits =
-    ap read_all (front_is machine sound)
-    ∙ sym (all_agree (lines_of machine))
-    ∙ ap finish (all_taken machine sound limits)
+    let are : AreNamed machine.states = record { once = sound.states_once; named = sound.states_named } in
+    ap (read_after []) (front_is machine sound)
+    ∙ headers_read machine sound limits (row_lines machine)
+    ∙ rows_read machine machine.rows [] 0 6 (header_statements machine) refl are limits sound.some_inputs sound.shaped (omega arith) sound.in_order (let few = limits.rows in omega (arith, few))
     ∙ finished_back machine sound
 
 -- the lines are made of words

@@ -1,17 +1,20 @@
 -- The walk over the lines of a text: those before the end, one line more, and its ends.
-use Rattle.std.specs.Prelude.{◌≡◌, ℕ, ◌+◌, ◌<◌, ◌≤◌, length, take, drop, not, Bool, cond, Result, Ok, Err, List, [], ◌∷◌, map}
+use Rattle.std.specs.Prelude.{◌≡◌, ℕ, ◌+◌, ◌<◌, ◌≤◌, length, take, drop, not, Bool, None, cond, Err, List, [], ◌∷◌, map}
 use Rattle.std.specs.List.{take_while, prefix_len, take-map, drop-map}
-use Rattle.std.proofs.Common.{refl, sym, ◌∙◌, ap, get_or}
+use Rattle.std.proofs.Common.{refl, sym, ◌∙◌, ap, subst, get_or}
 use Rattle.std.proofs.lemmas.List.{drop_more, drop_all}
 use Rattle.std.proofs.lemmas.List.Folds.{length-prefix_len}
 use Rattle.sis_text.specs.declared.places.Line.{Line}
 use Rattle.sis_text.specs.Entries.{Entry, entry_at}
 use Rattle.kiss_format.specs.Keywords.{kind_of, is_end_kind, before_end}
-use Rattle.kiss_format.specs.declared.fault.KissFault.{KissFault}
 use Rattle.kiss_format.specs.declared.fault.ReadFault.{ReadFault}
 use Rattle.kiss_format.specs.declared.fault.ReadFault.TheVariants.{Fault, Memory}
 use Rattle.kiss_format.specs.declared.draft.Draft.{Draft}
-use Rattle.kiss_format.specs.Steps.{take_entry, take_entries, onward, Takes}
+use Rattle.kiss_format.specs.Statements.{said_by}
+use Rattle.kiss_format.specs.Lines.{told, states_in, rows_in}
+use Rattle.kiss_format.specs.Reader.{whole, read_after}
+use Rattle.kiss_format.specs.Steps.{with_said, no_lines, draft_fault, Takes, Ends}
+use Rattle.kiss_format.proofs.Told.{Stands, stands_on, stands_wrong, stands_last}
 
 prefix_map : {A B : Type 0} (f : A → B) (test : B → Bool) (items : List A) → prefix_len test (map f items) ≡ prefix_len (λ item. test (f item)) items
 prefix_map f test [] = refl
@@ -36,21 +39,30 @@ entries_left source lines i line h is =
     ∙ ap (λ (first : Line). entry_at source first ∷ map (entry_at source) (drop (i + 1) lines)) (sym is)
     ∙ ap (λ (rest : List Entry). entry_at source line ∷ rest) (sym (drop-map (entry_at source) (i + 1) lines))
 
-walk_more : (draft : Draft) (source : List ℕ) (lines : List Line) (i : ℕ) (line : Line) → i < length lines → line ≡ get_or lines i line → take_entries draft (drop i (map (entry_at source) lines)) ≡ onward (take_entry draft (entry_at source line)) (λ next. take_entries next (drop (i + 1) (map (entry_at source) lines)))
-unfolding take_entries
-walk_more draft source lines i line h is =
-    ap (take_entries draft) (entries_left source lines i line h is)
+-- a draft has what the lines before a place tell
+abbrev pub IsBefore : List ℕ → List Line → ℕ → Draft → Type 0
+IsBefore source lines i draft = Stands (read_after [] (map (entry_at source) lines)) (drop i (map (entry_at source) lines)) draft
 
-pub walk_done : (draft : Draft) (source : List ℕ) (lines : List Line) (i : ℕ) → length lines ≤ i → take_entries draft (drop i (map (entry_at source) lines)) ≡ Ok draft
-unfolding take_entries
-walk_done draft source lines i h =
-    ap (take_entries draft) (drop-map (entry_at source) i lines ∙ ap (map (entry_at source)) (drop_all i lines h))
+pub walk_begun : (source : List ℕ) (lines : List Line) (draft : Draft) → draft ≡ no_lines → IsBefore source lines 0 draft
+unfolding told states_in rows_in
+walk_begun source lines draft e = ([], e, refl)
 
-pub walk_goes_on : (draft next : Draft) (source : List ℕ) (lines : List Line) (i : ℕ) (line : Line) → i < length lines → line ≡ get_or lines i line → take_entry draft (entry_at source line) ≡ Ok next → take_entries next (drop (i + 1) (map (entry_at source) lines)) ≡ take_entries draft (drop i (map (entry_at source) lines))
-walk_goes_on draft next source lines i line h is taken =
-    sym (walk_more draft source lines i line h is ∙ ap (λ (r : Result Draft KissFault). onward r (λ e. take_entries e (drop (i + 1) (map (entry_at source) lines)))) taken)
+pub walk_goes_on : (source : List ℕ) (lines : List Line) (i : ℕ) (line : Line) (draft next : Draft) → i < length lines → line ≡ get_or lines i line → IsBefore source lines i draft
+    → draft_fault draft line.number (said_by (entry_at source line).words) ≡ None → next ≡ with_said (said_by (entry_at source line).words) draft → IsBefore source lines (i + 1) next
+walk_goes_on source lines i line draft next h is stands right grown =
+    let read = read_after [] (map (entry_at source) lines) in
+    stands_on read (entry_at source line) (drop (i + 1) (map (entry_at source) lines)) draft next
+    (subst (λ left. Stands read left draft) (entries_left source lines i line h is) stands) right grown
 
-pub walk_fails : (fault : ReadFault) (draft next : Draft) (source : List ℕ) (lines : List Line) (i : ℕ) (line : Line) → i < length lines → line ≡ get_or lines i line → Takes (Err fault) next (take_entry draft (entry_at source line)) → (whole : Result Draft KissFault) → take_entries draft (drop i (map (entry_at source) lines)) ≡ whole → Takes (Err fault) next whole
-walk_fails (Fault fault) draft next source lines i line h is taken whole e =
-    sym e ∙ (walk_more draft source lines i line h is ∙ ap (λ (r : Result Draft KissFault). onward r (λ d. take_entries d (drop (i + 1) (map (entry_at source) lines)))) taken)
-walk_fails Memory draft next source lines i line h is taken whole e = tt
+pub walk_fails : (source : List ℕ) (lines : List Line) (i : ℕ) (line : Line) (draft next : Draft) (fault : ReadFault) → i < length lines → line ≡ get_or lines i line → IsBefore source lines i draft
+    → Takes (Err fault) next (draft_fault draft line.number (said_by (entry_at source line).words)) (with_said (said_by (entry_at source line).words) draft) → Ends (Err fault) next (read_after [] (map (entry_at source) lines))
+walk_fails source lines i line draft next (Fault fault) h is stands wrong =
+    let read = read_after [] (map (entry_at source) lines) in
+    stands_wrong read (entry_at source line) (drop (i + 1) (map (entry_at source) lines)) draft fault
+    (subst (λ left. Stands read left draft) (entries_left source lines i line h is) stands) wrong
+walk_fails source lines i line draft next Memory h is stands wrong = tt
+
+pub walk_done : (source : List ℕ) (lines : List Line) (i : ℕ) (draft : Draft) → length lines ≤ i → IsBefore source lines i draft → read_after [] (map (entry_at source) lines) ≡ whole draft
+walk_done source lines i draft h stands =
+    let read = read_after [] (map (entry_at source) lines) in
+    stands_last read draft (subst (λ left. Stands read left draft) (drop-map (entry_at source) i lines ∙ ap (map (entry_at source)) (drop_all i lines h)) stands)

@@ -1,4 +1,5 @@
 pub mod Keywords
+pub mod Statements
 pub mod Lines
 pub mod Reader
 pub mod Steps

@@ -1,24 +1,20 @@
--- What a logical line of a KISS2 table says, and what is wrong with it, given the lines before it.
--- Source: SIS report (UCB/ERL M92/41), KISS2 tables: `.i` and `.o` give the numbers of inputs and
--- outputs, `.p` and `.s` those of rows and states, `.r` the reset state; a row is an input cube, a
--- current state, a next state and outputs. The order of the causes and the limits are the project's
--- own. The lines before a line are given in file order.
-use Rattle.std.specs.Prelude.{◌+◌, ℕ, Bool, true, false, not, ◌&&◌, ◌||◌, ◌==◌, nat_le, nat_lt, Option, Some, None, List, [], ◌∷◌, ◌++◌, length, flat_map, option_to_list, if◌then◌else◌}
-use Rattle.std.specs.List.{list_all, filter}
+-- What statements of a KISS2 table tell, and what is wrong with a line after them. Source: SIS
+-- report (UCB/ERL M92/41), KISS2 tables: states are those that rows name, in order of first
+-- mention. The order of the causes and the limits are the project's own. The statements before a
+-- line are given newest first.
+use Rattle.std.specs.Prelude.{◌+◌, ℕ, Bool, true, false, not, ◌&&◌, ◌||◌, ◌==◌, nat_lt, Option, Some, None, List, [], ◌∷◌, ◌++◌, length, map, position, bytes_eq, if◌then◌else◌}
+use Rattle.std.specs.List.{filter_map}
 use Rattle.std.specs.Option.{option_map, option_or}
 use Rattle.circuit_model.specs.Names.{has}
-use Rattle.sis_text.specs.Words.{begins_with}
-use Rattle.sis_text.specs.Decimals.{is_digit, number_of}
-use Rattle.sis_text.specs.Entries.{Entry}
-use Rattle.line_words.specs.LineWords.{other_words, long_name, is_character}
 use Rattle.circuit_model.specs.MachineSoundness.{is_any}
-use Rattle.kiss_format.specs.Keywords.{kind_of}
-use Rattle.kiss_format.specs.declared.keyword.Keyword.{Keyword}
-use Rattle.kiss_format.specs.declared.keyword.Keyword.TheVariants.{Inputs, Outputs, Products, States, Reset, End, Row, Other}
+use Rattle.circuit_model.specs.declared.machine.MachineRow.{MachineRow}
+use Rattle.line_words.specs.LineWords.{long_name, character_of}
+use Rattle.kiss_format.specs.Statements.{Said, Inputs, Outputs, Reset, Row, Nothing, NoRow, NoHeader, named}
+use Rattle.kiss_format.specs.declared.draft.Draft.{Draft}
 use Rattle.kiss_format.specs.declared.fault.LimitKind.TheVariants as limit
 use Rattle.kiss_format.specs.declared.fault.KissFault.{KissFault}
 use Rattle.kiss_format.specs.declared.fault.KissFault.TheVariants.{BadHeader, BadRow, Limit}
-use Rattle.sis_base.specs.declared.limits.TheConstants.{MAX_MACHINE_ROWS, MAX_PORTS, MAX_STATES}
+use Rattle.sis_base.specs.declared.limits.TheConstants.{MAX_MACHINE_ROWS, MAX_STATES}
 
 -- a fault if a test holds
 abbrev pub when : Bool → KissFault → Option KissFault
@@ -40,33 +36,6 @@ abbrev pub first_item : {A : Type 0} → List A → Option A
 first_item [] = None
 first_item (item ∷ items) = Some item
 
--- whether a word is a numeral of one to four digits, the first not 0
-abbrev pub is_numeral : List ℕ → Bool
-is_numeral word = list_all is_digit word && nat_lt 0 (length word) && nat_le (length word) 4 && not (begins_with 48 word)
-
--- the number from 1 to `MAX_PORTS` that a word denotes, without a leading zero
-unfoldable pub count_of : List ℕ → Option ℕ
-count_of word = if is_numeral word && nat_le (number_of word) MAX_PORTS then Some (number_of word) else None
-
--- the number of a single word
-abbrev pub count_in : List (List ℕ) → Option ℕ
-count_in (word ∷ []) = count_of word
-count_in words = None
-
--- whether there is exactly one word
-abbrev pub is_one_word : List (List ℕ) → Bool
-is_one_word (word ∷ []) = true
-is_one_word words = false
-
--- the current and the next state of a row's words
-abbrev pub state_words : List (List ℕ) → List (List ℕ)
-state_words (input ∷ current ∷ next ∷ output ∷ []) = current ∷ next ∷ []
-state_words words = []
-
--- the states that a row's words name
-unfoldable pub named_states : List (List ℕ) → List (List ℕ)
-named_states words = filter (λ word. not (is_any word)) (state_words words)
-
 -- names with one more, if it is new
 unfoldable pub with_state : List (List ℕ) → List ℕ → List (List ℕ)
 with_state states name = if has states name then states else states ++ name ∷ []
@@ -76,116 +45,99 @@ unfoldable pub with_states : List (List ℕ) → List (List ℕ) → List (List 
 with_states states [] = states
 with_states states (name ∷ names) = with_states (with_state states name) names
 
--- what some lines say, each by its kind, its words after the first, and all its words
-abbrev pub of_lines : {A : Type 0} → (Keyword → List (List ℕ) → List (List ℕ) → List A) → List Entry → List A
-of_lines told lines = flat_map (λ line. told (kind_of line) (other_words line.words) line.words) lines
+-- the index of a name among states
+abbrev pub place_of : List (List ℕ) → List ℕ → Option ℕ
+place_of states name = position (bytes_eq name) states
 
--- the number of inputs of an `.i` line
-abbrev pub input_counts : Keyword → List (List ℕ) → List (List ℕ) → List ℕ
-input_counts Inputs words whole = option_to_list (count_in words)
-input_counts kind words whole = []
+-- the state of a word of a row; none for a word of every state
+abbrev pub state_of : List (List ℕ) → List ℕ → Option ℕ
+state_of states word = if is_any word then None else place_of states word
 
--- the number of outputs of an `.o` line
-abbrev pub output_counts : Keyword → List (List ℕ) → List (List ℕ) → List ℕ
-output_counts Outputs words whole = option_to_list (count_in words)
-output_counts kind words whole = []
+-- the row of four words
+abbrev pub row_of : List (List ℕ) → List ℕ → List ℕ → List ℕ → List ℕ → MachineRow
+row_of states input current next output = record {
+  input = map character_of input;
+  current = state_of states current;
+  next = state_of states next;
+  output = map character_of output;
+}
 
--- the state of an `.r` line
-abbrev pub reset_words : Keyword → List (List ℕ) → List (List ℕ) → List (List ℕ)
-reset_words Reset words whole = words
-reset_words kind words whole = []
+-- the number of inputs that a statement gives
+abbrev pub inputs_said : Said → Option ℕ
+inputs_said (Inputs count) = Some count
+inputs_said statement = None
 
--- the words of a row
-abbrev pub row_words : Keyword → List (List ℕ) → List (List ℕ) → List (List (List ℕ))
-row_words Row words whole = whole ∷ []
-row_words kind words whole = []
+-- the number of outputs that a statement gives
+abbrev pub outputs_said : Said → Option ℕ
+outputs_said (Outputs count) = Some count
+outputs_said statement = None
 
--- the states that a line names
-abbrev pub states_told : Keyword → List (List ℕ) → List (List ℕ) → List (List ℕ)
-states_told Row words whole = named_states whole
-states_told kind words whole = []
+-- the reset state that a statement gives
+abbrev pub reset_said : Said → Option (List ℕ)
+reset_said (Reset name) = Some name
+reset_said statement = None
 
--- the number of inputs, from lines
-unfoldable pub inputs_in : List Entry → Option ℕ
-inputs_in lines = first_item (of_lines input_counts lines)
+-- the states that rows name, in order of first mention
+unfoldable pub states_in : List Said → List (List ℕ)
+states_in [] = []
+states_in (Row input current next output ∷ before) = with_states (states_in before) (named current next)
+states_in (statement ∷ before) = states_in before
 
--- the number of outputs, from lines
-unfoldable pub outputs_in : List Entry → Option ℕ
-outputs_in lines = first_item (of_lines output_counts lines)
+-- the rows in file order; each state is known by its index among those that are named so far
+unfoldable pub rows_in : List Said → List MachineRow
+rows_in [] = []
+rows_in (Row input current next output ∷ before) = rows_in before ++ row_of (states_in (Row input current next output ∷ before)) input current next output ∷ []
+rows_in (statement ∷ before) = rows_in before
 
--- the reset state's name, from lines
-unfoldable pub reset_in : List Entry → Option (List ℕ)
-reset_in lines = first_item (of_lines reset_words lines)
-
--- the number of rows of lines
-unfoldable pub count_rows : List Entry → ℕ
-count_rows lines = length (of_lines row_words lines)
-
--- the states that lines name, in order of first mention
-unfoldable pub states_in : List Entry → List (List ℕ)
-states_in lines = with_states [] (of_lines states_told lines)
+-- what statements tell: the numbers of ports and the reset state, if they are given, the states and
+-- the rows
+unfoldable pub told : List Said → Draft
+told before = record {
+  inputs = first_item (filter_map inputs_said before);
+  outputs = first_item (filter_map outputs_said before);
+  reset = first_item (filter_map reset_said before);
+  states = states_in before;
+  rows = rows_in before;
+}
 
 -- the first name that is too long, by its length
 abbrev pub long_fault : List (List ℕ) → Option KissFault
 long_fault names = option_map (λ len. Limit limit.Name len) (long_name names)
 
--- what is wrong with the words after the first of a line of a number; `told` is what an earlier
--- such line said, and so many rows come before it
-unfoldable pub count_fault : Option ℕ → ℕ → ℕ → List (List ℕ) → Option KissFault
-count_fault told rows number words =
-    when (not (is_missing told) || not (rows == 0) || is_missing (count_in words)) (BadHeader number)
+-- whether a cube has as many characters as the header gave
+abbrev pub is_wide : Option ℕ → List ℕ → Bool
+is_wide None cube = false
+is_wide (Some width) cube = length cube == width
 
--- what is wrong with the words after the first of a line of one word
-unfoldable pub word_fault : ℕ → List (List ℕ) → Option KissFault
-word_fault number words = when (not (is_one_word words)) (BadHeader number)
+-- a row comes while a number of ports is missing
+abbrev pub ports_fault : Draft → ℕ → Option KissFault
+ports_fault draft number = when (is_missing draft.inputs || is_missing draft.outputs) (BadHeader number)
 
--- what is wrong with the words after the first of an `.r` line; `told` is what an earlier such line
--- said
-unfoldable pub reset_fault : Option (List ℕ) → ℕ → List (List ℕ) → Option KissFault
-reset_fault told number words = first_of (when (not (is_missing told) || not (is_one_word words)) (BadHeader number) ∷ long_fault words ∷ [])
+-- what is wrong with a number of ports, where an earlier line may have given it
+abbrev pub count_fault : Option ℕ → Draft → ℕ → Option KissFault
+count_fault given draft number = when (not (is_missing given) || not (length draft.rows == 0)) (BadHeader number)
 
--- whether bytes are cube characters, as many as the header gave
-abbrev pub is_cube : Option ℕ → List ℕ → Bool
-is_cube None bytes = false
-is_cube (Some width) bytes = length bytes == width && list_all is_character bytes
+-- what is wrong with a line's statement after what was told, but for the limits on rows and states
+unfoldable pub form_fault : Draft → ℕ → Said → Option KissFault
+form_fault draft number (Inputs count) = count_fault draft.inputs draft number
+form_fault draft number (Outputs count) = count_fault draft.outputs draft number
+form_fault draft number (Reset name) = first_of (when (not (is_missing draft.reset)) (BadHeader number) ∷ long_fault (name ∷ []) ∷ [])
+form_fault draft number (Row input current next output) = first_of
+    (ports_fault draft number
+    ∷ when (not (is_wide draft.inputs input && is_wide draft.outputs output)) (BadRow number)
+    ∷ long_fault (current ∷ next ∷ [])
+    ∷ [])
+form_fault draft number Nothing = None
+form_fault draft number NoRow = first_of (ports_fault draft number ∷ Some (BadRow number) ∷ [])
+form_fault draft number NoHeader = Some (BadHeader number)
 
--- whether words are those of a row
-abbrev pub is_row_of : Option ℕ → Option ℕ → List (List ℕ) → Bool
-is_row_of inputs outputs (input ∷ current ∷ next ∷ output ∷ []) = is_cube inputs input && is_cube outputs output
-is_row_of inputs outputs words = false
-
--- what is wrong with the form of a row's words, after so many rows
-unfoldable pub form_fault : Option ℕ → Option ℕ → ℕ → ℕ → List (List ℕ) → Option KissFault
-form_fault inputs outputs rows number whole = first_of
-    (when (is_missing inputs || is_missing outputs) (BadHeader number)
-    ∷ when (not (is_row_of inputs outputs whole)) (BadRow number)
-    ∷ long_fault (state_words whole)
-    ∷ when (nat_le MAX_MACHINE_ROWS rows) (Limit limit.Rows (MAX_MACHINE_ROWS + 1))
+-- a limit that is exceeded
+unfoldable pub limit_fault : Draft → Option KissFault
+limit_fault draft = first_of
+    (when (nat_lt MAX_MACHINE_ROWS (length draft.rows)) (Limit limit.Rows (MAX_MACHINE_ROWS + 1))
+    ∷ when (nat_lt MAX_STATES (length draft.states)) (Limit limit.States (MAX_STATES + 1))
     ∷ [])
 
--- what is wrong with the words of a row; states are those that the rows before it name
-unfoldable pub row_fault : Option ℕ → Option ℕ → List (List ℕ) → ℕ → ℕ → List (List ℕ) → Option KissFault
-row_fault inputs outputs states rows number whole =
-    option_or (form_fault inputs outputs rows number whole)
-    (when (nat_lt MAX_STATES (length (with_states states (named_states whole)))) (Limit limit.States (MAX_STATES + 1)))
-
--- what is wrong with a line after the lines before it, by its kind: its number, its words after the
--- first, all words
-abbrev pub fault_as : Keyword → List Entry → ℕ → List (List ℕ) → List (List ℕ) → Option KissFault
-fault_as Inputs front number words whole = count_fault (inputs_in front) (count_rows front) number words
-fault_as Outputs front number words whole = count_fault (outputs_in front) (count_rows front) number words
-fault_as Products front number words whole = word_fault number words
-fault_as States front number words whole = word_fault number words
-fault_as Reset front number words whole = reset_fault (reset_in front) number words
-fault_as End front number words whole = None
-fault_as Row front number words whole = row_fault (inputs_in front) (outputs_in front) (states_in front) (count_rows front) number whole
-fault_as Other front number words whole = Some (BadHeader number)
-
--- what is wrong with a line, given the lines before it
-unfoldable pub line_fault : List Entry → Entry → Option KissFault
-line_fault front line = fault_as (kind_of line) front line.number (other_words line.words) line.words
-
--- the first fault of a line, in file order
-unfoldable pub first_line_fault : List Entry → List Entry → Option KissFault
-first_line_fault front [] = None
-first_line_fault front (line ∷ lines) = option_or (line_fault front line) (first_line_fault (front ++ line ∷ []) lines)
+-- what is wrong with a line of a number and a statement, given the statements before it
+unfoldable pub line_fault : List Said → ℕ → Said → Option KissFault
+line_fault before number statement = option_or (form_fault (told before) number statement) (limit_fault (told (statement ∷ before)))

@@ -2,50 +2,23 @@
 -- describe. Source: SIS report (UCB/ERL M92/41), KISS2 tables: states are those that rows name, in
 -- order of first mention; without `.r` the machine starts in the current state of the first row
 -- that names one.
-use Rattle.std.specs.Prelude.{◌≡◌, ℕ, ◌+◌, Bool, Option, Some, None, Result, Ok, Err, List, [], ◌∷◌, ◌++◌, map, find, position, bytes_eq, decimal, codes, unwrap_or, if◌then◌else◌}
+use Rattle.std.specs.Prelude.{◌≡◌, ℕ, ◌+◌, Bool, Option, Some, None, Result, Ok, Err, List, [], ◌∷◌, ◌++◌, map, find, decimal, codes, unwrap_or}
 use Rattle.std.specs.Option.{option_map}
 use Rattle.std.specs.List.{filter_map, range_with_len}
 use Rattle.sis_text.specs.Entries.{Entry}
-use Rattle.line_words.specs.LineWords.{character_of}
-use Rattle.circuit_model.specs.MachineSoundness.{is_any}
 use Rattle.circuit_model.specs.Clashes.{first_clash}
 use Rattle.circuit_model.specs.declared.machine.Clash.{Clash}
 use Rattle.circuit_model.specs.declared.machine.Machine.{Machine}
 use Rattle.circuit_model.specs.declared.machine.MachineRow.{MachineRow}
 use Rattle.kiss_format.specs.Keywords.{kind_of, is_inputs_kind, is_outputs_kind, before_end}
-use Rattle.kiss_format.specs.Lines.{of_lines, row_words, first_item, inputs_in, outputs_in, reset_in, states_in, first_line_fault}
+use Rattle.kiss_format.specs.Statements.{Said, said_by}
+use Rattle.kiss_format.specs.Lines.{first_item, place_of, told, line_fault}
+use Rattle.kiss_format.specs.declared.draft.Draft.{Draft}
 use Rattle.kiss_format.specs.declared.keyword.Keyword.{Keyword}
 use Rattle.kiss_format.specs.declared.fault.KissFault.{KissFault}
 use Rattle.kiss_format.specs.declared.fault.KissFault.TheVariants.{RowClash, NoReset, NoRows}
 use Rattle.kiss_format.specs.declared.fault.ReadFault.{ReadFault}
 use Rattle.kiss_format.specs.declared.fault.ReadFault.TheVariants as read_fault
-
--- the index of a name among states
-abbrev pub place_of : List (List ℕ) → List ℕ → Option ℕ
-place_of states name = position (bytes_eq name) states
-
--- the state of a word of a row; none for a word of every state
-abbrev pub state_of : List (List ℕ) → List ℕ → Option ℕ
-state_of states word = if is_any word then None else place_of states word
-
--- the row of four words
-abbrev pub row_of : List (List ℕ) → List (List ℕ) → List MachineRow
-row_of states (input ∷ current ∷ next ∷ output ∷ []) = record {
-  input = map character_of input;
-  current = state_of states current;
-  next = state_of states next;
-  output = map character_of output;
-} ∷ []
-row_of states words = []
-
--- rows, by their words
-unfoldable pub rows_of : List (List ℕ) → List (List (List ℕ)) → List MachineRow
-rows_of states [] = []
-rows_of states (words ∷ rows) = row_of states words ++ rows_of states rows
-
--- the rows that lines describe
-unfoldable pub rows_in : List Entry → List MachineRow
-rows_in lines = rows_of (states_in lines) (of_lines row_words lines)
 
 -- the state that a machine starts in: the one that is named, otherwise the current state of the
 -- first row that has one
@@ -93,24 +66,24 @@ abbrev pub at_place : Result ℕ KissFault → (ℕ → Machine) → Result Mach
 at_place (Ok place) machine = Ok (machine place)
 at_place (Err fault) machine = Err fault
 
--- what parts are read as
-abbrev pub whole : Option ℕ → Option ℕ → Option (List ℕ) → List (List ℕ) → List MachineRow → Result Machine KissFault
-whole inputs outputs reset states rows = at_place (placed reset states rows) (machine_with inputs outputs states rows)
+-- what a draft is read as after the last line
+unfoldable pub whole : Draft → Result Machine KissFault
+whole draft = at_place (placed draft.reset draft.states draft.rows) (machine_with draft.inputs draft.outputs draft.states draft.rows)
 
 -- a fault, or what is read without one
 abbrev pub unless : Option KissFault → Result Machine KissFault → Result Machine KissFault
 unless None read = read
 unless (Some fault) read = Err fault
 
--- what lines without an end are read as
-unfoldable pub read_all : List Entry → Result Machine KissFault
-read_all lines = unless (first_line_fault [] lines)
-    (whole (inputs_in lines) (outputs_in lines) (reset_in lines) (states_in lines) (rows_in lines))
+-- what is read after statements, newest first, of the lines that follow them: the first fault of a
+-- line, then one of the whole, otherwise the machine
+unfoldable pub read_after : List Said → List Entry → Result Machine KissFault
+read_after before [] = whole (told before)
+read_after before (line ∷ lines) = unless (line_fault before line.number (said_by line.words)) (read_after (said_by line.words ∷ before) lines)
 
--- what a table's logical lines are read as: the first fault of a line, then one of the whole,
--- otherwise the machine
+-- what a table's logical lines are read as, those before the first end
 unfoldable pub read_machine_lines : List Entry → Result Machine KissFault
-read_machine_lines lines = read_all (before_end lines)
+read_machine_lines lines = read_after [] (before_end lines)
 
 -- the number of the first line of a kind among those that are read
 abbrev pub header_line : (Keyword → Bool) → List Entry → Option ℕ

@@ -12,26 +12,6 @@ use crate::keyword::Keyword;
 use crate::reading::{before_end, kind_at};
 use sis_text::Line;
 
-/// Whether a kind is that of the number of inputs.
-fn is_inputs_kind(kind: Keyword) -> bool
-    ensures { result ≡ is_inputs_kind kind }
-{
-    match kind {
-        Keyword::Inputs => true,
-        _ => false,
-    }
-}
-
-/// Whether a kind is that of the number of outputs.
-fn is_outputs_kind(kind: Keyword) -> bool
-    ensures { result ≡ is_outputs_kind kind }
-{
-    match kind {
-        Keyword::Outputs => true,
-        _ => false,
-    }
-}
-
 /// The first line that gives the number of inputs.
 fn first_inputs<'a>(source: &[u8], lines: &'a [Line]) -> Option<&'a Line>
     ensures { option_copied result ≡ find (λ (line : Line). is_inputs_kind
@@ -39,7 +19,7 @@ fn first_inputs<'a>(source: &[u8], lines: &'a [Line]) -> Option<&'a Line>
 {
     lines
         .iter()
-        .find(|line| is_inputs_kind(kind_at(source, line)))
+        .find(|line| matches!(kind_at(source, line), Keyword::Inputs))
 }
 
 /// The first line that gives the number of outputs.
@@ -49,7 +29,7 @@ fn first_outputs<'a>(source: &[u8], lines: &'a [Line]) -> Option<&'a Line>
 {
     lines
         .iter()
-        .find(|line| is_outputs_kind(kind_at(source, line)))
+        .find(|line| matches!(kind_at(source, line), Keyword::Outputs))
 }
 
 /// The number of a line, if there is one.

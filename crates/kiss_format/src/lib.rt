@@ -1,11 +1,10 @@
 //! KISS2 tables (SIS report, UCB/ERL M92/41): read as machines, and written.
 //!
-//! `specs/Lines.antt` says what is wrong with a line, given the lines before it;
-//! `specs/Reader.antt` says what must hold of the whole table, and which machine the lines
-//! describe. `read` returns exactly that machine or the first fault. The code takes line after line
-//! into a draft (`specs/Steps.antt`); a proof for all lists of lines says that its steps agree with
-//! the definition. What is read is sound. `laws` says that what is written is read again: a table
-//! has no names of ports, so these are made (`specs/Trips.antt`).
+//! Each line is a statement (`specs/Statements.antt`). `specs/Lines.antt` says what statements tell,
+//! and what is wrong with a line after others; `specs/Reader.antt` says what must hold of the whole
+//! table, and which machine the lines describe. `read` returns exactly that machine or the first
+//! fault. What is read is sound. `laws` says that what is written is read again: a table has no
+//! names of ports, so these are made (`specs/Trips.antt`).
 //!
 //! `machine_text` appends exactly the definition's text (`text_of` of `circuit_model`,
 //! `specs/MachineText.antt`): header lines, a line for each row, an end. Rows are compared for
@@ -25,6 +24,7 @@ pub mod laws;
 mod line_fault;
 mod number;
 mod reading;
+mod statement;
 mod states;
 mod whole;
 mod writing;

@@ -5,7 +5,7 @@ ghost use Rattle.std.specs.Prelude.{◌≡◌, ◌≤◌, true, length};
 ghost use Rattle.std.specs.List.{list_all};
 ghost use Rattle.sis_text.specs.Words.{begins_with};
 ghost use Rattle.sis_text.specs.Decimals.{is_digit};
-ghost use Rattle.kiss_format.specs.Lines.{is_numeral, count_of, count_in};
+ghost use Rattle.kiss_format.specs.Statements.{is_numeral, count_of, count_in};
 ghost use Rattle.line_words.specs.LineWords.{texts};
 
 use sis_base::limits::MAX_PORTS;
@@ -34,7 +34,7 @@ fn is_numeral(word: &[u8]) -> bool
 }
 
 /// The number from 1 to `MAX_PORTS` that a word denotes, without a leading zero.
-#[tactic(auto, unfolding(crate::specs::Lines::count_of))]
+#[tactic(auto, unfolding(crate::specs::Statements::count_of))]
 fn count_of(word: &[u8]) -> Option<usize>
     ensures { result ≡ count_of word.now }
 {

@@ -2,22 +2,25 @@
 //!
 //! Source: SIS report (UCB/ERL M92/41), KISS2 tables. The logical lines before the first end are
 //! taken one by one into a draft, up to the first with a fault; then the whole is checked. `read`
-//! and `read_lines` return exactly the machine or the fault of `read_lines` in `specs/Reader.antt`.
+//! and `read_lines` return exactly the machine or the fault of `read_machine_lines` in
+//! `specs/Reader.antt`.
 //! Callers rely on the machine being sound; for `read_lines`, if the words of the lines are proper.
 
-ghost use Rattle.std.specs.Prelude.{◌≡◌, not, map, length, IfOk};
+ghost use Rattle.std.specs.Prelude.{◌≡◌, [], not, map, length, IfOk};
 ghost use Rattle.std.specs.List.{All, take_while};
 ghost use Rattle.sis_text.specs.declared.places.Line.{Line};
 ghost use Rattle.sis_text.specs.Entries.{entry_at, entries_of};
 ghost use Rattle.sis_text.specs.Order.{IsProper, is_plain};
 ghost use Rattle.circuit_model.specs.MachineSoundness.{IsSoundMachine};
 ghost use Rattle.kiss_format.specs.Keywords.{kind_of, is_end_kind, before_end};
-ghost use Rattle.kiss_format.specs.Steps.{take_entry, take_entries, no_lines, finish, Takes, Makes};
-ghost use Rattle.kiss_format.specs.Reader.{read_machine_lines, Reads};
+ghost use Rattle.kiss_format.specs.Statements.{said_by};
+ghost use Rattle.kiss_format.specs.Steps.{with_said, draft_fault, no_lines, Takes, Ends, Makes};
+ghost use Rattle.kiss_format.specs.Reader.{read_after, read_machine_lines, Reads};
 
 use crate::draft::Draft;
 use crate::fault::ReadFault;
 use crate::keyword::{Keyword, keyword_of};
+use crate::statement::statement_of;
 use crate::whole::{finish, no_machine};
 use circuit_model::Machine;
 use sis_base::Whole;
@@ -73,10 +76,12 @@ pub fn before_end<'a>(source: &[u8], lines: &'a [Line]) -> &'a [Line]
 
 /// Reads one logical line of a text.
 fn take_line(source: &[u8], line: &Line, draft: &mut Draft, alloc: Global) -> Result<(), ReadFault>
-    ensures { Takes result draft.new (take_entry draft.old (entry_at source.now line.now)) }
+    ensures { Takes result draft.new
+        (draft_fault draft.old line.now.number (said_by (entry_at source.now line.now).words))
+        (with_said (said_by (entry_at source.now line.now).words) draft.old) }
 {
     let words = texts_at(alloc, source, line.words.as_slice())?;
-    draft.take(alloc, line.number, words.as_slice())
+    draft.take(alloc, line.number, statement_of(words.as_slice()))
 }
 
 /// Reads the logical lines of a text, up to the first that has a fault.
@@ -86,7 +91,8 @@ fn take_lines(
     draft: &mut Draft,
     alloc: Global,
 ) -> Result<(), ReadFault>
-    ensures { Takes result draft.new (take_entries draft.old (map (entry_at source.now) lines.now)) }
+    requires { draft.old ≡ no_lines }
+    ensures { Ends result draft.new (read_after [] (map (entry_at source.now) lines.now)) }
 {
     for line in lines {
         take_line(source, line, draft, alloc)?;
@@ -94,8 +100,9 @@ fn take_lines(
     Ok(())
 }
 
-/// Sets a machine to the one that the lines of a text before the first end describe, line by line.
-/// After an error the machine has no meaning.
+/// Sets a machine to the one that the lines of a text before the first end describe. After an error
+/// the machine has no meaning.
+#[tactic(auto, unfolding(crate::specs::Reader::read_machine_lines))]
 fn take_all(
     source: &[u8],
     lines: &[Line],
@@ -103,17 +110,16 @@ fn take_all(
     machine: &mut Machine,
     alloc: Global,
 ) -> Result<(), ReadFault>
-    ensures { Makes result machine.new (finish (take_entries draft.old
-        (before_end (map (entry_at source.now) lines.now)))) }
+    requires { draft.old ≡ no_lines }
+    ensures { Makes result machine.new (read_machine_lines (map (entry_at source.now) lines.now)) }
 {
     take_lines(source, before_end(source, lines), draft, alloc)?;
     finish(alloc, draft, machine)
 }
 
-/// Reads the lines of a text before the first end, line by line.
-fn read_by_steps(alloc: Global, source: &[u8], lines: &[Line]) -> Result<Machine, ReadFault>
-    ensures { Reads result (finish (take_entries no_lines
-        (before_end (map (entry_at source.now) lines.now)))) }
+/// Reads the lines of a text before the first end.
+fn read_by_lines(alloc: Global, source: &[u8], lines: &[Line]) -> Result<Machine, ReadFault>
+    ensures { Reads result (read_machine_lines (map (entry_at source.now) lines.now)) }
 {
     // Each is wrapped in a `Whole`, so that dropping it is one call.
     let mut draft = Whole {
@@ -134,7 +140,7 @@ pub fn read_lines(alloc: Global, bytes: &[u8], lines: &[Line]) -> Result<Machine
     ensures sound { All (IsProper is_plain) (map (entry_at bytes.now) lines.now) → IfOk result
         (λ machine. IsSoundMachine machine) }
 {
-    read_by_steps(alloc, bytes, lines)
+    read_by_lines(alloc, bytes, lines)
 }
 
 /// Reads a text as a machine. An error is the first fault of a line, in file order, otherwise the

@@ -1,16 +1,15 @@
 //! The states that rows name, in order of first mention, looked up by their names.
 //!
 //! A `StateNames` is a set of different names; contracts see their list, and the index of a name is
-//! the number of its state. `mention_all` adds the states of a row, without `*`, `ANY` and `-`,
+//! the number of its state. `mention_both` adds the states of a row, without `*`, `ANY` and `-`,
 //! which stand for every state or an open one (`specs/Lines.antt`). `state` returns the number of a
 //! word's state, and none for those words.
 
 ghost use Rattle.std.specs.Prelude.{◌≡◌, [], ◌∷◌, not, length, IfOk, OnOk};
 ghost use Rattle.std.specs.List.{filter};
 ghost use Rattle.circuit_model.specs.MachineSoundness.{is_any};
-ghost use Rattle.kiss_format.specs.Lines.{with_state, with_states, named_states};
-ghost use Rattle.kiss_format.specs.Reader.{place_of, state_of};
-ghost use Rattle.line_words.specs.LineWords.{texts};
+ghost use Rattle.kiss_format.specs.Statements.{named};
+ghost use Rattle.kiss_format.specs.Lines.{with_state, with_states, place_of, state_of};
 
 use circuit_model::{Name, Names};
 use indexmap::IndexSet;
@@ -78,19 +77,18 @@ impl StateNames {
         self.add(name_of(alloc, word)?)
     }
 
-    /// Adds the states that a row's words name, if they are new.
-    #[tactic(auto, unfolding(crate::specs::Lines::named_states, crate::specs::Lines::with_states))]
-    pub fn mention_all(&mut self, alloc: Global, words: &[&[u8]]) -> Result<(), AllocError>
-        ensures { OnOk result (self.new ≡ with_states self.old (named_states (texts words.now))) }
+    /// Adds the states that two words name, if they are new.
+    #[tactic(auto, unfolding(crate::specs::Lines::with_states))]
+    pub fn mention_both(
+        &mut self,
+        alloc: Global,
+        current: &[u8],
+        next: &[u8],
+    ) -> Result<(), AllocError>
+        ensures { OnOk result (self.new ≡ with_states self.old (named current.now next.now)) }
     {
-        match words {
-            [_, current, next, _] => {
-                self.mention(alloc, current)?;
-                self.mention(alloc, next)?;
-                Ok(())
-            }
-            _ => Ok(()),
-        }
+        self.mention(alloc, current)?;
+        self.mention(alloc, next)
     }
 
     /// The index of a name; none if it is missing.

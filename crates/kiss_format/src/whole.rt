@@ -9,8 +9,8 @@ ghost use Rattle.std.specs.Prelude.{◌≡◌, ◌++◌, ℕ, List, decimal, IfO
 ghost use Rattle.std.specs.List.{filter_map};
 ghost use Rattle.circuit_model.specs.declared.machine.MachineRow.{MachineRow};
 ghost use Rattle.kiss_format.specs.Lines.{first_item};
-ghost use Rattle.kiss_format.specs.Reader.{reset_place, reset_name, made_names, machine_with, placed};
-ghost use Rattle.kiss_format.specs.Steps.{Places, Makes, finished, no_parts};
+ghost use Rattle.kiss_format.specs.Reader.{reset_place, reset_name, made_names, machine_with, placed, whole};
+ghost use Rattle.kiss_format.specs.Steps.{Places, Makes, no_parts};
 
 use crate::draft::Draft;
 use crate::fault::{KissFault, ReadFault};
@@ -126,9 +126,9 @@ fn put_names(alloc: Global, draft: &Draft, machine: &mut Machine) -> Result<(), 
 
 /// Sets a machine to the one that a draft describes after the last line, if nothing is wrong with
 /// the whole. After an error the machine has no meaning.
-#[tactic(auto, unfolding(crate::specs::Steps::finished))]
+#[tactic(auto, unfolding(crate::specs::Reader::whole))]
 pub fn finish(alloc: Global, draft: &mut Draft, machine: &mut Machine) -> Result<(), ReadFault>
-    ensures { Makes result machine.new (finished draft.old) }
+    ensures { Makes result machine.new (whole draft.old) }
 {
     machine.reset = place_reset(alloc, &draft.reset, &draft.states, draft.rows.as_slice())?;
     put_names(alloc, draft, machine)?;
