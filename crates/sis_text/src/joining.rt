@@ -18,7 +18,7 @@ ghost use Rattle.sis_text.specs.Order.{AreInOrder, AreWordsOf, HaveWords, words_
 
 use crate::parting::{add_words, parts};
 use crate::places::{Line, Lines, Span, Spans, bytes_at};
-use sis_base::Sequence;
+use sis_base::{Copied, Sequence};
 use std::alloc::{AllocError, AllocFailed, Global};
 
 /// The number of bytes before the first `#`.
@@ -110,6 +110,16 @@ pub(crate) fn finish(lines: &mut Lines, line: Line) -> Result<(), AllocFailed<Li
     }
 }
 
+/// The same line; its words are in memory of just their size.
+fn fitted(alloc: Global, line: Line) -> Result<Line, AllocError>
+    ensures { IfOk result (λ made. made ≡ line) }
+{
+    Ok(Line {
+        number: line.number,
+        words: line.words.copy(alloc)?,
+    })
+}
+
 /// Adds one physical line to the open line, or to a new one, and returns the line that is open
 /// after it.
 fn take_line(
@@ -130,7 +140,7 @@ fn take_line(
     if ends_open(text) {
         return Ok(Some(taken));
     }
-    finish(lines, taken)?;
+    finish(lines, fitted(alloc, taken)?)?;
     Ok(None)
 }
 

@@ -4,7 +4,7 @@
 ghost use Rattle.std.specs.Prelude.{◌≡◌, length, take, drop, map, IfOk};
 ghost use Rattle.sis_text.specs.Words.{bytes_at};
 
-use sis_base::Sequence;
+use sis_base::{Copied, Sequence};
 use std::alloc::{AllocError, Global};
 
 /// A part of a text: `len` bytes from position `place` on.
@@ -12,6 +12,12 @@ use std::alloc::{AllocError, Global};
 pub struct Span {
     pub place: usize,
     pub len: usize,
+}
+
+impl Copied for Span {
+    fn copy(&self, _alloc: Global) -> Result<Self, AllocError> {
+        Ok(*self)
+    }
 }
 
 /// Spans in order.

@@ -18,6 +18,7 @@ unfolding words_at resume
 returns c = λ (rest : List Span).
     let e = taken_closed c.args.source.now c.args.begun c.args.number c.args.line rest (cc) in
     let w = c.in_ok-add_words.ensures in
+    let s = c.in_ok-fitted.ensures in
     let f = c.in_ok-finish.ensures in
     let a = append_assoc c.args.lines.now (filter has_words (taking c.args.begun c.args.number (words_at c.args.source.now c.args.line) ∷ [])) (filter has_words (join_lines c.args.source.now (c.args.number + 1) rest)) in
     cc
