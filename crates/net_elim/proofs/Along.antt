@@ -18,7 +18,8 @@ use Rattle.net_elim.specs.Collapse.{IsCause}
 use Rattle.net_elim.specs.declared.fault.CollapseFault.{CollapseFault}
 use Rattle.net_elim.specs.Phases.{IsPutInAll}
 use Rattle.net_elim.proofs.Stands.{standing_mapped}
-use Rattle.net_elim.proofs.Turns.{drives, cause_or}
+use Rattle.net_work.proofs.Indexed.{drives}
+use Rattle.net_elim.proofs.Turns.{cause_or}
 
 -- the circuit after a step
 put_circuit : (now new : Placed) (place : ℕ) (inner : Table) → IsSound (circuit_of now) → table_at now.slots place ≡ Some inner → IsPutInAll inner now new → with_put (circuit_of now) inner.output ≡ circuit_of new

@@ -29,7 +29,8 @@ use Rattle.net_elim.specs.Putting.{slots_taken, with_put, IsMade, AreMade, place
 use Rattle.net_elim.specs.declared.putting.Made.{Made}
 use Rattle.net_elim.specs.declared.putting.PutFault.{PutFault}
 use Rattle.net_elim.specs.declared.putting.PutFault.TheVariants.{Refused, Memory}
-use Rattle.net_elim.proofs.Places.{same_lists, drives_at, tests_all, tests_none}
+use Rattle.net_work.proofs.Indexed.{drives_at}
+use Rattle.net_elim.proofs.Places.{same_lists, tests_all, tests_none}
 use Rattle.sis_base.specs.declared.limits.TheConstants.{MAX_ROWS}
 
 -- one fanout

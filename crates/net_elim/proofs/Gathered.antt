@@ -28,7 +28,8 @@ use Rattle.alg_tables.proofs.Taken.{taken_output, taken_reads, taken_unread}
 use Rattle.net_elim.specs.Eliminating.{with_taken}
 use Rattle.net_elim.specs.Collapsing.{with_put, is_outer, collapsed, IsCollapsed}
 use Rattle.net_elim.proofs.TakenIn.{own_unread, taking_reduced, leaf_apart}
-use Rattle.net_elim.proofs.Stepping.{filter_all, all_weaker, all_there, all_both, each_drives}
+use Rattle.circuit_laws.proofs.Among.{own_drivers}
+use Rattle.net_elim.proofs.Stepping.{filter_all, all_weaker, all_there, all_both}
 
 -- what holds of a circuit in which some tables of another one were composed into their fanouts:
 -- only tables changed; the same signals are driven; of tables a table reads only what its signal's
@@ -206,7 +207,7 @@ unfolding ReadsNone
 none_read first circuit sound way =
     all_weaker (λ (table : Table). driver circuit.tables table.output ≡ Some table) (ReadsNone first)
     (λ table at. all_from_has (λ input. has (outputs_of first.tables) input ≡ false) table.inputs (λ input read. reads_leaves first circuit sound way table.output table input at read))
-    circuit.tables (each_drives circuit.tables (tables_differ circuit way.reduced.change.sound))
+    circuit.tables (own_drivers circuit.tables (tables_differ circuit way.reduced.change.sound))
 
 leaf_or_table : (circuit : Circuit) (name : List ℕ) → has (given circuit) name ≡ true → has (outputs_of circuit.tables) name ≡ false → has (leaf_names circuit) name ≡ true
 unfolding given
@@ -230,7 +231,7 @@ leaves_read first circuit sound way =
     leaf_or_table first input
     (way.reduced.signals input (live_reads circuit way.reduced.change.sound input (driver_reads circuit.tables table.output table input at read)))
     (reads_leaves first circuit sound way table.output table input at read)))
-    circuit.tables (each_drives circuit.tables (tables_differ circuit way.reduced.change.sound))
+    circuit.tables (own_drivers circuit.tables (tables_differ circuit way.reduced.change.sound))
 
 -- the whole
 pub collapse_reduced : (circuit : Circuit) → IsSound circuit → IsReduced circuit (collapsed circuit)

@@ -8,7 +8,6 @@ use Rattle.circuit_model.specs.Names.{all_different}
 use Rattle.circuit_model.specs.Values.{driver}
 use Rattle.circuit_model.specs.Soundness.{outputs_of}
 use Rattle.circuit_model.specs.declared.circuit.Table.{Table}
-use Rattle.net_elim.proofs.Stepping.{each_drives}
 use Rattle.net_work.specs.Placed.{standing, table_at}
 
 -- two lists that have the same item at each index are the same
@@ -17,18 +16,6 @@ same_lists [] [] h = refl
 same_lists [] (y ∷ ys) h = absurd (let e : None ≡ Some y = h 0 in cc)
 same_lists (x ∷ xs) [] h = absurd (let e : Some x ≡ None = h 0 in cc)
 same_lists {X} (x ∷ xs) (y ∷ ys) h = ap (λ (z : X). z ∷ xs) (same_Some x y (h 0)) ∙ ap (λ (zs : List X). y ∷ zs) (same_lists xs ys (λ at. h (suc at)))
-
--- what holds of all tables holds at each index
-pub all_at : (P : Table → Type 0) (slots : List (Option Table)) → AllByRecursion P (standing slots) → (at : ℕ) (t : Table) → table_at slots at ≡ Some t → P t
-unfolding standing
-all_at P [] all at t e = absurd (let z : None ≡ Some t = e in cc)
-all_at P (None ∷ slots) all zero t e = absurd (let z : None ≡ Some t = e in cc)
-all_at P (None ∷ slots) all (suc at) t e = all_at P slots all at t e
-all_at P (Some s ∷ slots) all zero t e = subst P (same_Some s t e) all.0
-all_at P (Some s ∷ slots) all (suc at) t e = all_at P slots all.1 at t e
-
-pub drives_at : (slots : List (Option Table)) → all_different (outputs_of (standing slots)) ≡ true → (at : ℕ) (t : Table) → table_at slots at ≡ Some t → driver (standing slots) t.output ≡ Some t
-drives_at slots different at t e = all_at (λ (u : Table). driver (standing slots) u.output ≡ Some u) slots (each_drives (standing slots) different) at t e
 
 -- tests of all tables
 pub tests_all : (test : Table → Bool) (slots : List (Option Table)) → ((at : ℕ) (t : Table) → table_at slots at ≡ Some t → test t ≡ true) → list_all test (standing slots) ≡ true
@@ -55,13 +42,6 @@ tests_each test slots h at t e = cases (test t) refl
     cases : (b : Bool) → test t ≡ b → b ≡ true
     cases true k = refl
     cases false k = absurd (false≢true (sym (tests_none test slots at t e k) ∙ h))
-
--- a change of each table
-pub standing_map : (turn : Table → Table) (slots : List (Option Table)) → standing (map (option_map turn) slots) ≡ map turn (standing slots)
-unfolding standing
-standing_map turn [] = refl
-standing_map turn (None ∷ slots) = standing_map turn slots
-standing_map turn (Some s ∷ slots) = ap (λ (ts : List Table). turn s ∷ ts) (standing_map turn slots)
 
 -- two facts of a result
 pub ok_both : {T E : Type 0} (r : Result T E) (P Q S : T → Type 0) → ((x : T) → P x → Q x → S x) → IfOk r P → IfOk r Q → IfOk r S

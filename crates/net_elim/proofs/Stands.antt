@@ -55,21 +55,6 @@ outputs_same (slot ∷ slots) (other ∷ others) h = cases other slot (h 0) (out
     cases (Some table) (Some first) e rest =
         ap (λ (name : List ℕ). name ∷ outputs_of (standing others)) (same_Some table.output first.output e) ∙ ap (λ (names : List (List ℕ)). first.output ∷ names) rest
 
--- what holds of the tables at indices holds of all tables, and conversely
-pub stand_all : (P : Table → Type 0) (slots : List (Option Table)) → ((at : ℕ) (table : Table) → table_at slots at ≡ Some table → P table) → AllByRecursion P (standing slots)
-unfolding standing
-stand_all P [] h = tt
-stand_all P (None ∷ slots) h = stand_all P slots (λ at. h (suc at))
-stand_all P (Some table ∷ slots) h = (h 0 table refl, stand_all P slots (λ at. h (suc at)))
-
-pub all_stand : (P : Table → Type 0) (slots : List (Option Table)) → AllByRecursion P (standing slots) → (at : ℕ) (table : Table) → table_at slots at ≡ Some table → P table
-unfolding standing
-all_stand P [] all at table h = absurd (none-some table h)
-all_stand P (None ∷ slots) all zero table h = absurd (none-some table h)
-all_stand P (None ∷ slots) all (suc at) table h = all_stand P slots all at table h
-all_stand P (Some first ∷ slots) all zero table h = subst P (same_Some first table h) all.0
-all_stand P (Some first ∷ slots) all (suc at) table h = all_stand P slots all.1 at table h
-
 -- some tables stay
 pub standing_rooted : (frame : Circuit) (test : Table → Bool) (slots others : List (Option Table)) → AllByRecursion (λ (table : Table). test table ≡ is_root frame table.output) (standing slots)
     → ((at : ℕ) → table_at others at ≡ rooted frame (table_at slots at)) → standing others ≡ filter test (standing slots)

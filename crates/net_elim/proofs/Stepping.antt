@@ -13,6 +13,7 @@ use Rattle.circuit_model.specs.declared.circuit.Circuit.{Circuit}
 use Rattle.circuit_laws.specs.Chains.{Chain}
 use Rattle.circuit_laws.specs.Edits.{is_root}
 use Rattle.circuit_laws.proofs.Names.{name_itself, name_not, different_head, different_tail, has_head, has_tail}
+use Rattle.circuit_laws.proofs.Among.{own_drivers}
 use Rattle.circuit_laws.specs.Changes.{IsReduced}
 use Rattle.circuit_laws.proofs.Changes.{chain_reduced, changed_refines}
 use Rattle.net_core.specs.Reads.{value_of}
@@ -58,7 +59,7 @@ filter_none test (first ∷ tables) e = cases (test first) refl e (filter_none t
     cases true h k more = absurd (cc)
     cases false h k more = (h, more k)
 
--- each table of different outputs drives its own
+-- what holds of all tables
 pub all_weaker : (P Q : Table → Type 0) → ((table : Table) → P table → Q table) → (tables : List Table) → AllByRecursion P tables → AllByRecursion Q tables
 all_weaker P Q h [] all = tt
 all_weaker P Q h (first ∷ tables) all = (h first all.0, all_weaker P Q h tables all.1)
@@ -74,22 +75,6 @@ all_there (first ∷ tables) = (
 pub all_both : (P Q : Table → Type 0) (tables : List Table) → AllByRecursion P tables → AllByRecursion Q tables → AllByRecursion (λ table. P table × Q table) tables
 all_both P Q [] p q = tt
 all_both P Q (first ∷ tables) p q = ((p.0, q.0), all_both P Q tables p.1 q.1)
-
-pub each_drives : (tables : List Table) → all_different (outputs_of tables) ≡ true → AllByRecursion (λ (table : Table). driver tables table.output ≡ Some table) tables
-unfolding driver
-each_drives [] different = tt
-each_drives (first ∷ tables) different = (
-  ap (λ (b : Bool). cond b (Some first) (driver tables first.output)) (name_itself first.output),
-  all_weaker (λ table. (driver tables table.output ≡ Some table) × (has (outputs_of tables) table.output ≡ true)) (λ table. driver (first ∷ tables) table.output ≡ Some table)
-      (λ table h.
-      ap (λ (b : Bool). cond b (Some first) (driver tables table.output))
-      (name_not table.output first.output (λ same.
-      false≢true (sym (different_head first.output (outputs_of tables) different) ∙ subst (λ (name : List ℕ). has (outputs_of tables) name ≡ true) same h.1)))
-      ∙ h.0)
-      tables
-      (all_both (λ table. driver tables table.output ≡ Some table) (λ table. has (outputs_of tables) table.output ≡ true) tables
-      (each_drives tables (different_tail first.output (outputs_of tables) different)) (all_there tables)),
-)
 
 -- a step
 stepped : {X Y : Type 0} (f : X → Y) (o : Option X) (y : Y) → option_map f o ≡ Some y → (x : X) × (o ≡ Some x) × (f x ≡ y)
@@ -114,7 +99,7 @@ step_reduced threshold rows circuit new sound e =
     let both =
     least_all (λ table. (driver circuit.tables table.output ≡ Some table) × (is_candidate threshold rows circuit table ≡ true)) (λ (table : Table). value_of circuit.tables table.output)
     (filter (is_candidate threshold rows circuit) circuit.tables)
-    (filter_all (λ table. driver circuit.tables table.output ≡ Some table) (is_candidate threshold rows circuit) circuit.tables (each_drives circuit.tables (tables_differ circuit sound))) inner found in
+    (filter_all (λ table. driver circuit.tables table.output ≡ Some table) (is_candidate threshold rows circuit) circuit.tables (own_drivers circuit.tables (tables_differ circuit sound))) inner found in
     subst (IsReduced circuit) is (eliminated_reduced circuit inner sound both.0 (candidate_inside threshold rows circuit inner both.1))
 
 -- if no step applies

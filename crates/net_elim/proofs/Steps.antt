@@ -32,7 +32,7 @@ use Rattle.alg_tables.proofs.Taken.{taken_output}
 use Rattle.net_elim.specs.Putting.{slots_taken, with_put}
 use Rattle.net_elim.specs.Waiting.{when, worth_within, worth_at, waits_at, IsPutAt, IsNext, AreWaiting}
 use Rattle.net_elim.proofs.Leasts.{IsLeast, first_none, waits_same, waits_other}
-use Rattle.net_elim.proofs.Places.{drives_at, standing_map}
+use Rattle.net_work.proofs.Indexed.{place_within, there_named, drives_at, standing_map}
 use Rattle.net_elim.proofs.Fanouts.{taken_there}
 
 -- a table that is removed
@@ -44,14 +44,6 @@ without_none (table ∷ tables) name h = cases (bytes_eq name table.output) h (�
     cases : (b : Bool) → (b || has (outputs_of tables) name) ≡ false → (has (outputs_of tables) name ≡ false → without tables name ≡ tables) → cond (not b) (table ∷ without tables name) (without tables name) ≡ table ∷ tables
     cases true k rest = absurd (false≢true (sym k))
     cases false k rest = ap (λ (ts : List Table). table ∷ ts) (rest k)
-
-pub there_named : (slots : List (Option Table)) (place : ℕ) (t : Table) → table_at slots place ≡ Some t → has (outputs_of (standing slots)) t.output ≡ true
-unfolding standing
-there_named [] place t e = absurd (let z : None ≡ Some t = e in cc)
-there_named (None ∷ slots) zero t e = absurd (let z : None ≡ Some t = e in cc)
-there_named (None ∷ slots) (suc place) t e = there_named slots place t e
-there_named (Some s ∷ slots) zero t e = subst (λ (u : Table). has (outputs_of (s ∷ standing slots)) u.output ≡ true) (same_Some s t e) (has_head s.output (outputs_of (standing slots)))
-there_named (Some s ∷ slots) (suc place) t e = has_tail s.output (outputs_of (standing slots)) t.output (there_named slots place t e)
 
 pub standing_gone : (slots : List (Option Table)) (place : ℕ) (t : Table) → all_different (outputs_of (standing slots)) ≡ true → table_at slots place ≡ Some t → standing (set slots place None) ≡ without (standing slots) t.output
 unfolding standing tables_kept
@@ -190,11 +182,6 @@ worth_candidate threshold rows placed t v h takes =
     cases true true false k m = m
     cases true false c k m = absurd (false≢true k)
     cases false b c k m = absurd (false≢true k)
-
-pub place_within : (slots : List (Option Table)) (place : ℕ) (t : Table) → table_at slots place ≡ Some t → place < length slots
-place_within [] place t e = absurd (let z : None ≡ Some t = e in cc)
-place_within (s ∷ slots) zero t e = omega arith
-place_within (s ∷ slots) (suc place) t e = omega (arith, place_within slots place t e)
 
 pub worth_counted : {R : Type 0} (threshold : ℤ) (placed : Placed) (place : ℕ) (entry : Entry R) (inner : Bool) (v : ℤ) (made : Option ℤ) → Some (written_of entry) ≡ table_at placed.slots place
     → inner ≡ not (is_root placed.frame entry.output) → ((t : Table) → table_at placed.slots place ≡ Some t → v ≡ value_of (standing placed.slots) t.output)

@@ -26,7 +26,8 @@ use Rattle.net_elim.specs.Touching.{IsGrown, IsCovered, IsJoined, AreTouched, Ar
 use Rattle.net_elim.proofs.Leasts.{waits_same, waits_other}
 use Rattle.net_elim.proofs.Places.{tests_all, tests_each}
 use Rattle.net_elim.proofs.Fanouts.{unread_takes}
-use Rattle.net_elim.proofs.Steps.{there_named, worth_of_table, candidate_worth, worth_candidate}
+use Rattle.net_work.proofs.Indexed.{there_named}
+use Rattle.net_elim.proofs.Steps.{worth_of_table, candidate_worth, worth_candidate}
 use Rattle.net_elim.proofs.Uses.{IsUntouched, same_place, slot_left, worth_left}
 use Rattle.sis_base.specs.declared.limits.TheConstants.{MAX_ROWS}
 

@@ -19,25 +19,21 @@ use Rattle.alg_tables.specs.declared.taking.ComposeFault.{ComposeFault}
 use Rattle.alg_tables.proofs.Taken.{taken_unread, taken_apart}
 use Rattle.net_elim.specs.Collapsing.{refusal_among}
 use Rattle.net_elim.proofs.TakenIn.{own_unread}
-use Rattle.net_elim.proofs.Stepping.{each_drives}
 use Rattle.net_elim.specs.Collapse.{IsCause}
 use Rattle.net_elim.specs.declared.fault.CollapseFault.{CollapseFault}
 use Rattle.net_elim.specs.declared.fault.CollapseFault.TheVariants.{CubeLimit, TooWide, Memory}
 use Rattle.net_elim.specs.Phases.{IsPut, IsPutInAll}
-use Rattle.net_elim.proofs.Stands.{all_stand, some_there, written_there, written_elsewhere}
+use Rattle.net_work.proofs.Indexed.{all_at, drives}
+use Rattle.net_elim.proofs.Stands.{some_there, written_there, written_elsewhere}
 use Rattle.net_elim.proofs.Rising.{before_done, in_more, in_at, not_in_take}
 use Rattle.sis_base.specs.declared.limits.TheConstants.{MAX_ROWS}
 
--- a table of a sound network drives its signal, does not read it, and names each input once
-pub drives : (placed : Placed) (place : ℕ) (inner : Table) → IsSound (circuit_of placed) → table_at placed.slots place ≡ Some inner → driver (standing placed.slots) inner.output ≡ Some inner
-drives placed place inner sound at =
-    all_stand (λ (table : Table). driver (standing placed.slots) table.output ≡ Some table) placed.slots (each_drives (standing placed.slots) (tables_differ (circuit_of placed) sound)) place inner at
-
+-- a table of a sound network does not read its own signal, and names each input once
 pub own_apart : (placed : Placed) (place : ℕ) (inner : Table) → IsSound (circuit_of placed) → table_at placed.slots place ≡ Some inner → has inner.inputs inner.output ≡ false
 own_apart placed place inner sound at = own_unread (circuit_of placed) inner sound (drives placed place inner sound at)
 
 pub inputs_once : (placed : Placed) (place : ℕ) (table : Table) → IsSound (circuit_of placed) → table_at placed.slots place ≡ Some table → all_different table.inputs ≡ true
-inputs_once placed place table sound at = all_stand (λ (t : Table). all_different t.inputs ≡ true) placed.slots sound.table_inputs_once place table at
+inputs_once placed place table sound at = all_at (λ (t : Table). all_different t.inputs ≡ true) placed.slots sound.table_inputs_once place table at
 
 -- a table that does not read the signal refuses nothing
 none_position : (names : List (List ℕ)) (name : List ℕ) → has names name ≡ false → position (bytes_eq name) names ≡ None

@@ -23,9 +23,9 @@ use Rattle.alg_tables.proofs.Places.{IsFound, found}
 use Rattle.alg_tables.proofs.Taken.{taken_output, taken_reads, taken_apart}
 use Rattle.net_elim.specs.Putting.{slots_taken, with_put}
 use Rattle.net_elim.specs.Waiting.{when, worth_within, worth_at}
-use Rattle.net_elim.proofs.Places.{drives_at, standing_map}
+use Rattle.net_work.proofs.Indexed.{there_named, drives_at, standing_map}
 use Rattle.net_elim.proofs.Fanouts.{taken_there}
-use Rattle.net_elim.proofs.Steps.{there_named, standing_gone, taken_at_place, worth_of_table}
+use Rattle.net_elim.proofs.Steps.{standing_gone, taken_at_place, worth_of_table}
 
 -- a name that is not read is not used
 unread_unused : (name : List ℕ) (t : Table) → has t.inputs name ≡ false → uses_in name t ≡ 0

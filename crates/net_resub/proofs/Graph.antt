@@ -18,7 +18,8 @@ use Rattle.net_work.specs.Placed.{standing, table_at}
 use Rattle.net_work.specs.Slots.{inputs_in, inputs_at}
 use Rattle.net_resub.specs.Best.{is_led}
 use Rattle.net_resub.specs.Reaching.{place_named, places_named, graph_of, ReadsAll}
-use Rattle.net_resub.proofs.Slots.{there_named, later_apart, drives_at, place_within}
+use Rattle.net_work.proofs.Indexed.{there_named, drives_at, place_within}
+use Rattle.net_resub.proofs.Slots.{later_apart}
 
 -- the index of a name
 stepped : (found : Option ℕ) (place : ℕ) → option_map suc found ≡ Some place → (one : ℕ) × (found ≡ Some one) × (suc one ≡ place)

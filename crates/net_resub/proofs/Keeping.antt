@@ -11,7 +11,7 @@ use Rattle.net_resub.specs.Kept.{IsKeptBeside}
 use Rattle.net_resub.specs.Pairs.{saving_between, saving_at}
 use Rattle.net_resub.specs.declared.divisions.Division.{Division}
 use Rattle.net_resub.specs.declared.kept.Kept.{Kept}
-use Rattle.net_resub.proofs.Slots.{place_within}
+use Rattle.net_work.proofs.Indexed.{place_within}
 use Rattle.net_resub.proofs.Saving.{saving_places}
 use Rattle.net_resub.proofs.Sets.{just_none, just_told, just_moved}
 

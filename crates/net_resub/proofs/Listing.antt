@@ -15,7 +15,7 @@ use Rattle.net_work.specs.Placed.{table_at}
 use Rattle.net_resub.specs.Resubbed.{row_cubes}
 use Rattle.net_resub.specs.Listed.{IsNeeded, HasPut, HasPutUnder, AreJoined, IsListed, AreListed, is_under}
 use Rattle.net_resub.specs.declared.listed.DivisorLists.{DivisorLists}
-use Rattle.net_resub.proofs.Slots.{place_within}
+use Rattle.net_work.proofs.Indexed.{place_within}
 
 -- indices after others
 pub in_append : (xs ys : List ℕ) (at : ℕ) → is_in (xs ++ ys) at ≡ (is_in xs at || is_in ys at)

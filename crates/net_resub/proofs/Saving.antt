@@ -14,7 +14,8 @@ use Rattle.alg_tables.proofs.Divided.{unread_stays}
 use Rattle.alg_tables.proofs.Divisions.{divided_output}
 use Rattle.net_resub.specs.Best.{is_led, worth_at}
 use Rattle.net_resub.specs.Pairs.{saving_of, saving_between, saving_at}
-use Rattle.net_resub.proofs.Slots.{standing_set, literals_set, place_has}
+use Rattle.net_work.proofs.Indexed.{standing_set}
+use Rattle.net_resub.proofs.Slots.{literals_set, place_has}
 use Rattle.net_resub.proofs.Graph.{one_place, led_leads, leads_led}
 use Rattle.sis_base.specs.declared.limits.TheConstants.{MAX_INPUTS}
 

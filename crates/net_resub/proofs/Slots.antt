@@ -15,35 +15,13 @@ use Rattle.circuit_laws.specs.Edits.{replaced}
 use Rattle.circuit_laws.proofs.Names.{name_is, name_not, different_head, different_tail, has_head, has_tail}
 use Rattle.net_candidates.specs.Candidates.{ArePair}
 use Rattle.net_work.specs.Placed.{standing, table_at}
-use Rattle.circuit_laws.proofs.Among.{own_drivers}
-
--- what a table at an index drives is driven
-pub there_named : (slots : List (Option Table)) (place : ℕ) (table : Table) → table_at slots place ≡ Some table → has (outputs_of (standing slots)) table.output ≡ true
-unfolding standing
-there_named [] place table there = absurd (none-some table there)
-there_named (None ∷ slots) zero table there = absurd (none-some table there)
-there_named (Some first ∷ slots) zero table there =
-    subst (λ (t : Table). has (first.output ∷ outputs_of (standing slots)) t.output ≡ true) (same_Some first table there) (has_head first.output (outputs_of (standing slots)))
-there_named (None ∷ slots) (suc place) table there = there_named slots place table there
-there_named (Some first ∷ slots) (suc place) table there = has_tail first.output (outputs_of (standing slots)) table.output (there_named slots place table there)
+use Rattle.net_work.proofs.Indexed.{there_named}
 
 -- a later table drives another signal
 pub later_apart : (first : Table) (slots : List (Option Table)) (place : ℕ) (table : Table) → all_different (first.output ∷ outputs_of (standing slots)) ≡ true → table_at slots place ≡ Some table → table.output ≡ first.output → ⊥
 later_apart first slots place table different there same =
     false≢true (sym (different_head first.output (outputs_of (standing slots)) different)
     ∙ subst (λ (n : List ℕ). has (outputs_of (standing slots)) n ≡ true) same (there_named slots place table there))
-
--- what holds of all tables holds at each index
-pub all_at : (P : Table → Type 0) (slots : List (Option Table)) → AllByRecursion P (standing slots) → (place : ℕ) (table : Table) → table_at slots place ≡ Some table → P table
-unfolding standing
-all_at P [] all place table there = absurd (none-some table there)
-all_at P (None ∷ slots) all zero table there = absurd (none-some table there)
-all_at P (None ∷ slots) all (suc place) table there = all_at P slots all place table there
-all_at P (Some first ∷ slots) all zero table there = subst P (same_Some first table there) all.0
-all_at P (Some first ∷ slots) all (suc place) table there = all_at P slots all.1 place table there
-
-pub drives_at : (slots : List (Option Table)) → all_different (outputs_of (standing slots)) ≡ true → (place : ℕ) (table : Table) → table_at slots place ≡ Some table → driver (standing slots) table.output ≡ Some table
-drives_at slots different = all_at (λ (table : Table). driver (standing slots) table.output ≡ Some table) slots (own_drivers (standing slots) different)
 
 -- a table has an index
 pub has_place : (slots : List (Option Table)) (table : Table) → Has table (standing slots) → (place : ℕ) × (table_at slots place ≡ Some table)
@@ -63,11 +41,6 @@ place_has (None ∷ slots) zero table there = absurd (none-some table there)
 place_has (None ∷ slots) (suc place) table there = place_has slots place table there
 place_has (Some first ∷ slots) zero table there = inl (sym (same_Some first table there))
 place_has (Some first ∷ slots) (suc place) table there = inr (place_has slots place table there)
-
-pub place_within : (slots : List (Option Table)) (place : ℕ) (table : Table) → table_at slots place ≡ Some table → place < length slots
-place_within [] place table there = absurd (none-some table there)
-place_within (slot ∷ slots) zero table there = omega arith
-place_within (slot ∷ slots) (suc place) table there = let below : place < length slots = place_within slots place table there in omega (arith, below)
 
 -- the indices of two tables in their order
 abbrev pub ArePlaces : List (Option Table) → Table → Table → Type 0
@@ -92,20 +65,6 @@ split_places (Some s ∷ slots) (t ∷ before) between after first second e =
 
 pub pair_places : (slots : List (Option Table)) (first second : Table) → ArePair (standing slots) first second → ArePlaces slots first second
 pair_places slots first second pair = split_places slots pair.before pair.between pair.after first second pair.among
-
--- a table that is replaced by another one with its signal
-pub standing_set : (slots : List (Option Table)) (place : ℕ) (old new : Table) → all_different (outputs_of (standing slots)) ≡ true → table_at slots place ≡ Some old → new.output ≡ old.output
-    → standing (set slots place (Some new)) ≡ replaced (standing slots) new
-unfolding standing replaced
-standing_set [] place old new different there same = absurd (none-some old there)
-standing_set (None ∷ slots) zero old new different there same = absurd (none-some old there)
-standing_set (Some first ∷ slots) zero old new different there same =
-    sym (ap (λ (b : Bool). cond b (new ∷ standing slots) (first ∷ replaced (standing slots) new)) (name_is new.output first.output (same ∙ ap (λ (t : Table). t.output) (sym (same_Some first old there)))))
-standing_set (None ∷ slots) (suc place) old new different there same = standing_set slots place old new different there same
-standing_set (Some first ∷ slots) (suc place) old new different there same =
-    ap (λ (rest : List Table). first ∷ rest) (standing_set slots place old new (different_tail first.output (outputs_of (standing slots)) different) there same)
-    ∙ sym (ap (λ (b : Bool). cond b (new ∷ standing slots) (first ∷ replaced (standing slots) new))
-    (name_not new.output first.output (λ (e : new.output ≡ first.output). later_apart first slots place old different there (sym same ∙ e))))
 
 -- the number of literals after that
 pub literals_set : (slots : List (Option Table)) (place : ℕ) (old new : Table) → table_at slots place ≡ Some old

@@ -15,7 +15,8 @@ use Rattle.alg_tables.proofs.Divisions.{divided_output}
 use Rattle.net_resub.specs.Best.{worth_at, IsFirst}
 use Rattle.net_resub.specs.Pairs.{saving_at}
 use Rattle.net_resub.specs.declared.divisions.Division.{Division}
-use Rattle.net_resub.proofs.Slots.{standing_set, set_all}
+use Rattle.net_work.proofs.Indexed.{standing_set}
+use Rattle.net_resub.proofs.Slots.{set_all}
 use Rattle.net_resub.proofs.Saving.{saving_places, worth_some}
 use Rattle.net_resub.proofs.Worths.{best_is}
 

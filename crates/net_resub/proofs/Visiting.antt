@@ -23,7 +23,7 @@ use Rattle.net_resub.specs.Pairs.{saving_at}
 use Rattle.net_resub.specs.declared.divisions.Division.{Division}
 use Rattle.net_resub.specs.declared.listed.DivisorLists.{DivisorLists}
 use Rattle.net_resub.proofs.Listing.{in_append, in_front, in_back, one_in}
-use Rattle.net_resub.proofs.Slots.{place_within}
+use Rattle.net_work.proofs.Indexed.{place_within}
 use Rattle.net_resub.proofs.Saving.{saving_places, saving_over}
 
 -- the divisors of a table

@@ -5,3 +5,4 @@ pub mod Views
 pub mod Ordered
 pub mod Numbers
 pub mod Along
+pub mod Indexed

@@ -17,7 +17,8 @@ use Rattle.sdc_simplify.proofs.InTurns.{turn_sound}
 use Rattle.sdc_simplify.specs.Simplify.{IsCause}
 use Rattle.sdc_simplify.specs.declared.fault.SimplifyFault.{SimplifyFault}
 use Rattle.sdc_simplify.specs.declared.fault.SimplifyFault.TheVariants.{CubeLimit, Memory}
-use Rattle.sdc_simplify.proofs.Stands.{drives, standing_replaced, names_kept}
+use Rattle.net_work.proofs.Indexed.{drives, standing_set}
+use Rattle.sdc_simplify.proofs.Stands.{names_kept}
 
 -- the circuit after a turn, and what a turn refuses
 turned : (now new : Placed) (place : ℕ) (table : Table) → IsSound (circuit_of now) → table_at now.slots place ≡ Some table
@@ -25,14 +26,14 @@ turned : (now new : Placed) (place : ℕ) (table : Table) → IsSound (circuit_o
 unfolding with_minimum with_replaced
 turned now new place table sound at set =
     let made : Table = minimized table (is_local (circuit_of now) table) in
-    ap (λ (found : Option Table). option_map_or (λ (t : Table). with_replaced (circuit_of now) (minimized t (is_local (circuit_of now) t))) found (circuit_of now)) (drives now place table table.output sound at refl)
+    ap (λ (found : Option Table). option_map_or (λ (t : Table). with_replaced (circuit_of now) (minimized t (is_local (circuit_of now) t))) found (circuit_of now)) (drives now place table sound at)
     ∙ (ap (λ (tables : List Table). with_tables now.frame tables)
-    (sym (standing_replaced now.slots place table made (tables_differ (circuit_of now) sound) at (sym (minimized_output table (is_local (circuit_of now) table)))))
+    (sym (standing_set now.slots place table made (tables_differ (circuit_of now) sound) at (minimized_output table (is_local (circuit_of now) table))))
     ∙ ap circuit_of (sym set))
 
 refusal_there : (now : Placed) (place : ℕ) (table : Table) → IsSound (circuit_of now) → table_at now.slots place ≡ Some table → minimum_refusal (circuit_of now) table.output ≡ own_refusal table
 refusal_there now place table sound at =
-    ap (λ (found : Option Table). if option_map_or is_list_long found false then Some table.output else None) (drives now place table table.output sound at refl)
+    ap (λ (found : Option Table). if option_map_or is_list_long found false then Some table.output else None) (drives now place table sound at)
 
 minimum_turn : (now new : Placed) (place : ℕ) (table : Table) → IsSound (circuit_of now) → table_at now.slots place ≡ Some table
     → new ≡ with_slot now place (Some (minimized table (is_local (circuit_of now) table))) → is_list_long table ≡ false → IsTurn (with_minimum is_local) minimum_refusal table.output now new

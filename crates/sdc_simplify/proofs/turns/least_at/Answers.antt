@@ -9,14 +9,14 @@ use Rattle.sdc_simplify.specs.Minimized.{minimized}
 use Rattle.net_core.specs.Places.{written_of}
 use Rattle.net_core.specs.Tables.{named}
 use Rattle.net_work.specs.Placed.{circuit_of, table_at}
+use Rattle.net_work.proofs.Indexed.{all_at}
 use Rattle.sdc_simplify.specs.Turns.{AreLocal}
-use Rattle.sdc_simplify.proofs.Stands.{holds_there}
 use Rattle.sdc_simplify.proofs.turns.least_at.Goals as goal
 
 pub least_table-requires-clause-shaped : goal.least_table-requires-clause-shaped
 unfolding named
 least_table-requires-clause-shaped g c =
-    (holds_there IsShaped c.args.work.now c.args.place (written_of c.in-Some.entry.now) c.requires.sound c.requires.sound.shaped (sym c.in-Some.ensures.table)).0
+    (all_at IsShaped c.args.work.now.slots c.requires.sound.shaped c.args.place (written_of c.in-Some.entry.now) (sym c.in-Some.ensures.table)).0
 
 pub least_table-requires-clause-wide : goal.least_table-requires-clause-wide
 unfolding named
