@@ -1,7 +1,8 @@
 #!/usr/bin/env bash
-# Files of several models: yosys (a package of Debian) writes each design below as BLIF with its modules kept, `sis` reads
-# and writes it, and ABC (Debian's berkeley-abc), which reads the modules too, says whether the two are equivalent. The last
-# designs are to be refused: clocks that are gated or differ, and cells that have no model. Counts what is equal and refused.
+# Files of several models: yosys (a package of Debian) writes each design below as BLIF with its
+# modules kept, `sis` reads and writes it, and ABC (Debian's berkeley-abc), which reads the modules
+# too, says whether the two are equivalent. The last designs are to be refused: clocks that are
+# gated or differ, and cells that have no model. Counts what is equal and refused.
 top=$(cd "$(dirname "$(readlink -f "$0")")/.." && pwd)
 . "$top/bench/common.sh"
 
@@ -271,11 +272,13 @@ cells='-cell $_DFF_?_ 01 -cell $_DFF_???_ 01 -cell $_DLATCH_?_ 01'
 cd "$work" || exit 1
 
 write_design() { # name
-  yosys -q -p "read_verilog parts.v; hierarchy -top $1; proc; opt; techmap; opt; dfflegalize $cells; abc -g AND,OR,XOR,NAND,NOR; opt_clean; write_blif $1.blif" > "$1.log" 2>&1
+  local steps="hierarchy -top $1; proc; opt; techmap; opt; dfflegalize $cells"
+  steps="$steps; abc -g AND,OR,XOR,NAND,NOR; opt_clean"
+  yosys -q -p "read_verilog parts.v; $steps; write_blif $1.blif" > "$1.log" 2>&1
 }
 
-# ABC's flat network of a file, and what it says of that and of ours. Without -c its check takes a loop through a latch of
-# a module for one of tables.
+# ABC's flat network of a file, and what it says of that and of ours. Without -c its check takes a
+# loop through a latch of a module for one of tables.
 verdict() { # name
   berkeley-abc -c "read_blif -c $1.blif; write_blif $1.flat.blif" > "$1.log" 2>&1
   [ -s "$1.flat.blif" ] || { echo "ABC does not read it: $(grep -v '^ABC' "$1.log" | head -1)"; return; }
