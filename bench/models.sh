@@ -1,13 +1,16 @@
 #!/usr/bin/env bash
 # Files of several models: yosys (a package of Debian) writes each design below as BLIF with its
 # modules kept, `sis` reads and writes it, and ABC (Debian's berkeley-abc), which reads the modules
-# too, says whether the two are equivalent. The last designs are to be refused: clocks that are
-# gated or differ, and cells that have no model. Counts what is equal and refused.
+# too, says whether the two are equivalent. The last designs are to be refused: an input without an
+# actual, clocks that are gated or differ, and cells that have no model. With a folder as argument
+# (the tests of yosys's sources), the same for each of its Verilog files with modules in others.
+# Counts what is equal, refused, and left out since yosys or ABC does not do its part.
+folder=${1:+$(readlink -f "$1")}
 top=$(cd "$(dirname "$(readlink -f "$0")")/.." && pwd)
 . "$top/bench/common.sh"
 
 for tool in yosys berkeley-abc; do
-  command -v "$tool" > /dev/null || { echo "$tool is not installed (a package of Debian): left out"; exit 0; }
+  command -v "$tool" > /dev/null || { echo "no $tool (a package of Debian): left out"; exit 0; }
 done
 
 cat > "$work/parts.v" <<'V'
@@ -266,38 +269,69 @@ module padded(input a, b, output y);
 endmodule
 V
 
-equal_ones="adder4 adder16 adder_sub alu8 mux16 multiplier4 count_ones tree shift8 shift64 counter4 counter16 accumulator fifo fifo_pair serial_out serial_in serial_pair lfsr crc8 pulse pulses debounce lights arbiter falling wires idle system levels"
-refused_ones="gated two_clocks crossed clears padded"
+equal_ones="adder4 adder16 adder_sub alu8 mux16 multiplier4 count_ones tree shift8 shift64
+  counter4 counter16 accumulator fifo fifo_pair serial_out serial_in serial_pair lfsr
+  crc8 pulse pulses debounce lights arbiter falling wires system levels"
+refused_ones="idle gated two_clocks crossed clears padded"
 cells='-cell $_DFF_?_ 01 -cell $_DFF_???_ 01 -cell $_DLATCH_?_ 01'
 cd "$work" || exit 1
 
-write_design() { # name
-  local steps="hierarchy -top $1; proc; opt; techmap; opt; dfflegalize $cells"
+write_design() { # name, Verilog file, hierarchy's option
+  local steps="hierarchy $3; proc; opt; memory; opt; techmap; opt; dfflegalize $cells"
   steps="$steps; abc -g AND,OR,XOR,NAND,NOR; opt_clean"
-  yosys -q -p "read_verilog parts.v; $steps; write_blif $1.blif" > "$1.log" 2>&1
+  timeout 60 yosys -q -p "read_verilog $2; $steps; write_blif $1.blif" > "$1.log" 2>&1
 }
 
-# ABC's flat network of a file, and what it says of that and of ours. Without -c its check takes a
-# loop through a latch of a module for one of tables.
+# What ABC says of its flat network of a file and ours. Without -c its check takes a loop through a
+# latch of a module for one of tables.
 verdict() { # name
-  berkeley-abc -c "read_blif -c $1.blif; write_blif $1.flat.blif" > "$1.log" 2>&1
-  [ -s "$1.flat.blif" ] || { echo "ABC does not read it: $(grep -v '^ABC' "$1.log" | head -1)"; return; }
-  berkeley-abc -c "dsec $1.flat.blif $1.ours.blif" 2>&1 | grep -i "equivalent\|undecided\|fail\|miter" | head -1
+  local check=cec
+  grep -q '^\.latch' "$1.flat.blif" && check=dsec
+  timeout 60 berkeley-abc -c "$check $1.flat.blif $1.ours.blif" 2>&1 |
+    grep -io "networks are[a-z ]* equivalent\|undecided\|.*miter.*" | head -1
 }
 
-equal=0 refused=0 status=0
-for design in $equal_ones $refused_ones; do
-  write_design "$design" || { printf '%-12s yosys: %s\n' "$design" "$(tail -1 "$design.log")"; status=1; continue; }
-  models=$(grep -c '^\.model' "$design.blif") instances=$(grep -c '^\.subckt' "$design.blif")
-  if "$top/out/sis" -c "read_blif $design.blif; write_blif $design.ours.blif" 2> "$design.err"; then
-    said=$(verdict "$design")
-    case $said in *"are equivalent"*) equal=$((equal + 1)) ;; *) status=1 ;; esac
-    case " $refused_ones " in *" $design "*) status=1 ;; esac
+# Sets `said` to how a design went: equal, refused: CAUSE, left out: CAUSE, or what is wrong.
+try_design() { # name
+  (berkeley-abc -c "read_blif -c $1.blif; write_blif $1.flat.blif"; true) > "$1.log" 2>&1
+  if ! "$top/out/sis" -c "read_blif $1.blif; write_blif $1.ours.blif" 2> "$1.err"; then
+    said="refused: $(cat "$1.err")"
+  elif [ ! -s "$1.flat.blif" ]; then
+    said="left out: ABC does not read it"
+  elif grep -q '^\.outputs *$' "$1.flat.blif"; then
+    said="left out: it has no outputs"
   else
-    said=$(cat "$design.err") refused=$((refused + 1))
-    case " $equal_ones " in *" $design "*) status=1 ;; esac
+    said=$(verdict "$1")
+    case $said in *"are equivalent"*) said=equal ;; esac
   fi
-  printf '%-12s models %2d, instances %2d: %s\n' "$design" "$models" "$instances" "${said:-ABC says nothing}"
-done
-echo "equal: $equal, refused: $refused"
+}
+
+equal=0 refused=0 left=0 status=0
+count_design() { # name; its Verilog file; hierarchy's option; what is wanted: equal, refused or any
+  if ! write_design "$1" "$2" "$3"; then
+    said="left out: yosys does not write it"
+  else
+    try_design "$1"
+  fi
+  case $said in
+    equal) equal=$((equal + 1)) ;;
+    refused*) refused=$((refused + 1)) ;;
+    "left out"*) left=$((left + 1)) ;;
+    *) status=1 ;;
+  esac
+  case $said in "$4"*) ;; *) [ "$4" = any ] || status=1 ;; esac
+  printf '%-24s models %2d, instances %2d: %s\n' "$1" \
+    "$(grep -sc '^\.model' "$1.blif")" "$(grep -sc '^\.subckt' "$1.blif")" \
+    "${said:-ABC says nothing}"
+}
+
+for design in $equal_ones; do count_design "$design" parts.v "-top $design" equal; done
+for design in $refused_ones; do count_design "$design" parts.v "-top $design" refused; done
+if [ -n "$folder" ]; then
+  for file in $(find "$folder" -name '*.v' | sort); do
+    [ "$(grep -c '^ *module ' "$file")" -ge 2 ] || continue
+    count_design "$(basename "$file" .v)" "$file" -auto-top any
+  done
+fi
+echo "equal: $equal, refused: $refused, left out: $left"
 exit $status
