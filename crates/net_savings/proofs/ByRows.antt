@@ -1,10 +1,10 @@
 -- What a table loses if it is divided by one cube, as its rows tell: each row that contains the
 -- cube loses the cube's literals and gains one.
-use Rattle.std.proofs.Common.{◌≡◌, ℕ, ◌+◌, ◌*◌, ◌-◌, ◌<◌, ◌≤◌, zero, suc, ◌&&◌, Bool, true, false, not, cond, if◌then◌else◌, Option, Some, None, List, [], ◌∷◌, ◌++◌, map, filter, length, take, drop, get_or, replicate, refl, sym, ap, ap₂, ◌∙◌, subst, inl, inr, arith}
+use Rattle.std.proofs.Common.{◌≡◌, ℕ, ◌+◌, ◌*◌, ◌-◌, ◌<◌, ◌≤◌, zero, suc, ◌&&◌, Bool, true, false, not, cond, if◌then◌else◌, Option, Some, None, List, [], ◌∷◌, ◌++◌, map, filter, length, take, get_or, replicate, refl, sym, ap, ap₂, ◌∙◌, subst, inl, inr, arith}
 use Rattle.std.specs.List.{list_all, list_any}
 use Rattle.std.proofs.Math.Nat.{mul-suc}
 use Rattle.std.proofs.lemmas.Bool.{and_parts, and_from, false≢true}
-use Rattle.std.proofs.lemmas.List.{length-map, length-append, length-drop, take_all, drop_all}
+use Rattle.std.proofs.lemmas.List.{length-map, length-append}
 use Rattle.std.proofs.lemmas.List.Elements.{filter-append}
 use Rattle.std.proofs.lemmas.List.Sums.{sum_by-cons}
 use Rattle.std.proofs.lemmas.Option.{none-some}
@@ -15,7 +15,7 @@ use Rattle.circuit_model.specs.declared.circuit.Table.{Table}
 use Rattle.cube_cover.specs.Literals.{literal_product, literal_contains, row_contains}
 use Rattle.alg_div.specs.Cubes.{Has, times, row_eq}
 use Rattle.alg_div.specs.Steps.{without, strip, support, support_from}
-use Rattle.alg_div.proofs.Lists.{Has-append, Has-map, map-drop, map-take, same_from_eq, eq_from_same}
+use Rattle.alg_div.proofs.Lists.{Has-append, Has-map, map-take, same_from_eq, eq_from_same}
 use Rattle.alg_div.proofs.Terms.{strip-apart, width-has}
 use Rattle.net_candidates.specs.Spots.{many}
 use Rattle.net_candidates.specs.Candidates.{literals_in}
@@ -278,27 +278,6 @@ once_push (y ∷ xs) x h away = (
   ],
   once_push xs x h.1 (λ m. away (inr m)),
 )
-
--- rows compared with all later ones
-module _ {X Z : Type 0} (f : X → Z) (xs : List X) (i : ℕ) where
-  none_dropped : length xs ≤ i → map f (drop i xs) ≡ []
-  none_dropped end = ap (map f) (drop_all i xs end)
-
-  pub among_end : (z : Z) → length xs ≤ i → (Has z (map f xs) → Has z (map f (drop i xs))) → Has z (map f xs) → ⊥
-  among_end z end before m = subst (Has z) (none_dropped end) (before m)
-
-  pub once_end : length xs ≤ i → (AreOnce (map f (drop i xs)) → AreOnce (map f xs)) → AreOnce (map f xs)
-  once_end end before = before (subst AreOnce (sym (none_dropped end)) tt)
-
-  module _ (x : X) (below : i < length xs) (is : x ≡ get_or xs i x) where
-    pub among_next : (z : Z) → (Has z (map f xs) → Has z (map f (drop i xs))) → (z ≡ f x → ⊥) → Has z (map f xs) → Has z (map f (drop (i + 1) xs))
-    among_next z before away m =
-        elim (subst (Has z) (map-drop f xs i x below is) (before m)) as (λ _. Has z (map f (drop (i + 1) xs))) [ inl e ↦ absurd (away e) | inr n ↦ n ]
-
-    pub once_before : (AreOnce (map f (drop i xs)) → AreOnce (map f xs)) → (Has (f x) (map f (take (length xs - (i + 1)) (drop (i + 1) xs))) → ⊥) → AreOnce (map f (drop (i + 1) xs)) → AreOnce (map f xs)
-    once_before before away rest =
-        let all : take (length xs - (i + 1)) (drop (i + 1) xs) ≡ drop (i + 1) xs = take_all (length xs - (i + 1)) (drop (i + 1) xs) (omega (arith, length-drop (i + 1) xs)) in
-        before (subst AreOnce (sym (map-drop f xs i x below is)) (subst (λ (ys : List X). Has (f x) (map f ys) → ⊥) all away, rest))
 
 -- one more row
 module _ {X : Type 0} (literals : X → List (Option Bool)) (rows : List X) (i : ℕ) (row d : X) (keys new_keys : List (List (Option Bool))) (below : i < length rows) (is : row ≡ get_or rows i row)

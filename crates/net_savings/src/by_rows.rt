@@ -6,7 +6,7 @@
 //! input, need not be divided to know what it loses by one cube; and one without such a row loses
 //! nothing. Callers rely on `loss_by_rows`: the number is exact if there is one.
 
-ghost use Rattle.std.specs.Prelude.{◌≡◌, ◌↔◌, ℕ, ◌+◌, ◌-◌, ◌*◌, ◌<◌, ◌≤◌, ◌++◌, ◌∷◌, [], true, false, if◌then◌else◌, Some, List, length, map, IsTrue, IfOk, IfSome};
+ghost use Rattle.std.specs.Prelude.{◌≡◌, ℕ, ◌+◌, ◌-◌, ◌*◌, ◌<◌, ◌≤◌, ◌++◌, ◌∷◌, [], true, false, if◌then◌else◌, Some, List, length, map, IsTrue, IfOk, IfSome};
 ghost use Rattle.std.specs.List.{list_all};
 ghost use Rattle.circuit_model.specs.Names.{has, all_different};
 ghost use Rattle.sis_base.specs.Rows.{HasWidth};
@@ -30,9 +30,6 @@ use net_core::CoverTable;
 use sis_base::Sequence;
 use sis_base::limits::MAX_INPUTS;
 use std::alloc::{AllocError, Global};
-
-/// So many rows are compared two by two, which then takes less time than a set of them.
-const FEW_ROWS: usize = 200;
 
 // Whether all literals of a cube have one of some names.
 fn is_read(names: &[Name], cube: &[Literal]) -> bool
@@ -136,44 +133,10 @@ fn add_row(
     Ok(is_new)
 }
 
-// Whether two rows are the same.
-fn is_same<R: Row>(one: &R, other: &R) -> bool
-    ensures { IsTrue result ↔ (R.literals one.now ≡ R.literals other.now) }
-{
-    one.width() == other.width() && one.is_equal(other)
-}
-
-// Whether a row is among others.
-fn is_among<R: Row>(row: &R, others: &[R]) -> bool
-    ensures { IsTrue result ↔ Has (R.literals row.now) (map R.literals others.now) }
-{
-    for other in others {
-        if is_same(row, other) {
-            return true;
-        }
-    }
-    false
-}
-
-// Whether rows are distinct, each compared with all later ones.
-fn are_distinct_by_pairs<R: Row>(rows: &[R]) -> bool
-    ensures { IsTrue result → AreOnce (map R.literals rows.now) }
-{
-    for (place, row) in rows.iter().enumerate() {
-        if is_among(row, &rows[place + 1..]) {
-            return false;
-        }
-    }
-    true
-}
-
 // Whether rows are distinct.
 fn are_distinct<R: Row>(alloc: Global, rows: &[R]) -> Result<bool, AllocError>
     ensures { IfOk result (λ distinct. IsTrue distinct → AreOnce (map R.literals rows.now)) }
 {
-    if rows.len() <= FEW_ROWS {
-        return Ok(are_distinct_by_pairs(rows));
-    }
     let mut seen = IndexSet::new(alloc);
     for row in rows {
         let is_new = add_row(&mut seen, literals_of(alloc, row)?)?;
@@ -218,10 +181,7 @@ pub(crate) fn loss_by_rows<R: Row>(
         return Ok(Some(0));
     }
     let count = count_rows(alloc, table, cube)?;
-    if count == 0 {
-        return Ok(Some(0));
-    }
-    if !are_telling(alloc, table, cube)? {
+    if count == 0 || !are_telling(alloc, table, cube)? {
         return Ok(None);
     }
     // by this call the rows are known to have the cover's width

@@ -1,8 +1,8 @@
-use Rattle.std.proofs.Common.{◌≡◌, ◌-◌, ℕ, List, [], ◌∷◌, length, refl, sym, ap, ◌∙◌, inl, arith}
+use Rattle.std.proofs.Common.{◌-◌, ℕ, List, length, refl, sym, ap, ◌∙◌, arith}
 use Rattle.std.specs.List.{list_all}
 use Rattle.circuit_model.specs.Names.{has}
 use Rattle.cover_names.specs.declared.literal.Literal.{Literal}
-use Rattle.net_savings.proofs.ByRows.{lacking_loss, unread_table_loss, told_loss}
+use Rattle.net_savings.proofs.ByRows.{unread_table_loss, told_loss}
 use Rattle.net_savings.proofs.by_rows.loss_by_rows.Goals as goal
 
 pub returns-then-not-is_read : goal.returns-then-not-is_read
@@ -10,11 +10,6 @@ returns-then-not-is_read g c = λ name output free.
     unread_table_loss c.args.table.now c.args.cube.now
     (ap (λ (names : List (List ℕ)). list_all (λ (literal : Literal). has names literal.name) c.args.cube.now) (sym c.as_slice.ensures) ∙ (sym c.is_read.ensures ∙ c.if-not-is_read.true))
     name output
-
-pub returns-then-count-eq0 : goal.returns-then-count-eq0
-returns-then-count-eq0 g c = λ name output free.
-    lacking_loss c.args.table.now (c.args.cube.now ∷ []) c.args.cube.now c.in_ok-count.count (inl refl) c.in_ok-count.ensures
-    (let none : c.in_ok-count.count ≡ 0 = omega (arith, c.if-count-eq0.true) in none) name output
 
 pub returns : goal.returns
 returns g c = λ name output free.
