@@ -16,14 +16,14 @@ use Rattle.circuit_model.specs.declared.machine.MachineRow.{MachineRow}
 use Rattle.kiss_format.specs.Keywords.{before_end, kind_of, is_end_kind}
 use Rattle.kiss_format.specs.Statements.{Said, said_by}
 use Rattle.kiss_format.specs.Lines.{first_item, told, states_in, rows_in, form_fault, limit_fault, line_fault}
-use Rattle.kiss_format.specs.Reader.{machine_with, reset_place, reset_name, by_clash, by_place, placed, at_place, whole, unless, read_after, read_machine_lines, Reads}
+use Rattle.kiss_format.specs.Reader.{machine_with, reset_place, reset_name, by_clash, by_place, placed, at_place, whole, unless, read_machine_lines, Reads}
 use Rattle.kiss_format.specs.Trips.{IsWithinLimits}
 use Rattle.kiss_format.specs.declared.draft.Draft.{Draft}
 use Rattle.kiss_format.specs.declared.fault.KissFault.{KissFault}
 use Rattle.kiss_format.specs.declared.fault.KissFault.TheVariants.{RowClash, NoReset, NoRows}
 use Rattle.kiss_format.specs.declared.fault.ReadFault.{ReadFault}
 use Rattle.kiss_format.specs.declared.fault.ReadFault.TheVariants.{Fault, Memory}
-use Rattle.kiss_format.proofs.Told.{told_more}
+use Rattle.kiss_format.proofs.Told.{read_after, all_after, told_more}
 use Rattle.kiss_format.proofs.Drafts.{IsCount, OfWords, HasWidths, IsGood, IsShort, line_said, good_said, good_nothing}
 use Rattle.kiss_format.proofs.Firsts.{currents}
 use Rattle.kiss_format.proofs.Mentions.{all_append}
@@ -161,7 +161,7 @@ pub read_holds : (W : OfWords) (P : Machine → Type 0) (lines : List Entry) (ma
 unfolding read_machine_lines before_end told states_in rows_in
 read_holds W P lines machine holds are e =
     lines_hold W P (before_end lines) [] machine holds (good_nothing W)
-    (all_taken (λ (line : Entry). AllByRecursion W line.words) (prefix_len (λ line. not (is_end_kind (kind_of line))) lines) lines are) e
+    (all_taken (λ (line : Entry). AllByRecursion W line.words) (prefix_len (λ line. not (is_end_kind (kind_of line))) lines) lines are) (sym (all_after (before_end lines)) ∙ e)
 
 -- what holds of what is read, whatever the words
 

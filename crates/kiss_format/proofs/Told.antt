@@ -1,15 +1,42 @@
--- What statements tell with one more, and what is read as they are taken one after the other.
-use Rattle.std.specs.Prelude.{◌≡◌, Option, Some, None, Result, Err, List, [], ◌∷◌}
+-- What statements tell with one more, and what is read as they are taken one after the other, which
+-- is what is read of all of them.
+use Rattle.std.specs.Prelude.{◌≡◌, Option, Some, None, Result, Err, List, [], ◌∷◌, ◌++◌, map}
 use Rattle.std.specs.Option.{option_or}
-use Rattle.std.proofs.Common.{refl, sym, ◌∙◌, ap}
+use Rattle.std.proofs.Common.{refl, sym, ◌∙◌, ap, append_assoc}
+use Rattle.std.proofs.lemmas.List.{append-nil, reverse-append}
 use Rattle.sis_text.specs.Entries.{Entry}
 use Rattle.circuit_model.specs.declared.machine.Machine.{Machine}
 use Rattle.kiss_format.specs.Statements.{Said, Inputs, Outputs, Reset, Row, Nothing, NoRow, NoHeader, said_by}
 use Rattle.kiss_format.specs.Lines.{told, states_in, rows_in, form_fault, limit_fault, line_fault}
-use Rattle.kiss_format.specs.Reader.{whole, unless, read_after}
+use Rattle.kiss_format.specs.Reader.{whole, unless, first_line_fault, statements_of, read_all}
 use Rattle.kiss_format.specs.Steps.{with_said, draft_fault}
 use Rattle.kiss_format.specs.declared.draft.Draft.{Draft}
 use Rattle.kiss_format.specs.declared.fault.KissFault.{KissFault}
+
+-- what is read after statements of the lines that follow, taken one by one
+unfoldable pub read_after : List Said → List Entry → Result Machine KissFault
+read_after before [] = whole (told before)
+read_after before (line ∷ lines) = unless (line_fault before line.number (said_by line.words)) (read_after (said_by line.words ∷ before) lines)
+
+pub read_parted : (before : List Said) (lines : List Entry) → read_after before lines ≡ unless (first_line_fault before lines) (whole (told (statements_of lines ++ before)))
+unfolding read_after first_line_fault
+read_parted before [] = refl
+read_parted before (line ∷ lines) = by (line_fault before line.number (said_by line.words)) (read_parted (said_by line.words ∷ before) lines)
+  where
+    newest : statements_of (line ∷ lines) ++ before ≡ statements_of lines ++ said_by line.words ∷ before
+    newest =
+        ap (λ all. all ++ before) (reverse-append (said_by line.words ∷ []) (map (λ (one : Entry). said_by one.words) lines))
+        ∙ append_assoc (statements_of lines) (said_by line.words ∷ []) before
+
+    by : (cause : Option KissFault)
+        → read_after (said_by line.words ∷ before) lines ≡ unless (first_line_fault (said_by line.words ∷ before) lines) (whole (told (statements_of lines ++ said_by line.words ∷ before)))
+        → unless cause (read_after (said_by line.words ∷ before) lines) ≡ unless (option_or cause (first_line_fault (said_by line.words ∷ before) lines)) (whole (told (statements_of (line ∷ lines) ++ before)))
+    by None rest = rest ∙ ap (λ all. unless (first_line_fault (said_by line.words ∷ before) lines) (whole (told all))) (sym newest)
+    by (Some fault) rest = refl
+
+pub all_after : (lines : List Entry) → read_all lines ≡ read_after [] lines
+unfolding read_all
+all_after lines = sym (read_parted [] lines ∙ ap (λ all. unless (first_line_fault [] lines) (whole (told all))) (append-nil (statements_of lines)))
 
 pub told_more : (statement : Said) (before : List Said) → told (statement ∷ before) ≡ with_said statement (told before)
 unfolding told states_in rows_in

@@ -21,11 +21,12 @@ use Rattle.circuit_model.specs.declared.machine.MachineRow.{MachineRow}
 use Rattle.kiss_format.specs.Keywords.{keyword_of, kind_of, is_end_kind, before_end}
 use Rattle.kiss_format.specs.Statements.{Said, Inputs, Outputs, Reset, Nothing, said_by}
 use Rattle.kiss_format.specs.Lines.{first_of, place_of, told, states_in, rows_in, form_fault, limit_fault}
-use Rattle.kiss_format.specs.Reader.{made_names, machine_with, placed, whole, read_after, read_machine_lines}
+use Rattle.kiss_format.specs.Reader.{made_names, machine_with, placed, whole, read_all, read_machine_lines}
 use Rattle.kiss_format.specs.Trips.{IsWithinLimits, plainly_named}
 use Rattle.kiss_format.specs.declared.keyword.Keyword.{Keyword}
 use Rattle.kiss_format.specs.declared.keyword.Keyword.TheVariants as kind
 use Rattle.kiss_format.specs.declared.draft.Draft.{Draft}
+use Rattle.kiss_format.proofs.Told.{read_after, all_after}
 use Rattle.kiss_format.proofs.Mentions.{all_append}
 use Rattle.kiss_format.proofs.NamedStates.{AreNamed, row_stepped, place_back, state_has}
 use Rattle.kiss_format.proofs.Numerals.{count_back, decimal_is_word}
@@ -131,7 +132,8 @@ lines_read : (machine : Machine) → IsSoundMachine machine → IsWithinLimits m
 unfolding read_machine_lines told states_in rows_in
 lines_read machine sound limits =
     let are : AreNamed machine.states = record { once = sound.states_once; named = sound.states_named } in
-    ap (read_after []) (front_is machine sound)
+    ap read_all (front_is machine sound)
+    ∙ all_after (inputs_line machine ∷ outputs_line machine ∷ products_line machine ∷ states_line machine ∷ reset_line machine ∷ row_lines machine)
     ∙ headers_read machine sound limits (row_lines machine)
     ∙ rows_read machine machine.rows [] 0 6 (header_statements machine) refl are limits sound.some_inputs sound.shaped (omega arith) sound.in_order (let few = limits.rows in omega (arith, few))
     ∙ finished_back machine sound

@@ -12,9 +12,9 @@ use Rattle.kiss_format.specs.declared.fault.ReadFault.TheVariants.{Fault, Memory
 use Rattle.kiss_format.specs.declared.draft.Draft.{Draft}
 use Rattle.kiss_format.specs.Statements.{said_by}
 use Rattle.kiss_format.specs.Lines.{told, states_in, rows_in}
-use Rattle.kiss_format.specs.Reader.{whole, read_after}
+use Rattle.kiss_format.specs.Reader.{whole, read_all}
 use Rattle.kiss_format.specs.Steps.{with_said, no_lines, draft_fault, Takes, Ends}
-use Rattle.kiss_format.proofs.Told.{Stands, stands_on, stands_wrong, stands_last}
+use Rattle.kiss_format.proofs.Told.{all_after, Stands, stands_on, stands_wrong, stands_last}
 
 prefix_map : {A B : Type 0} (f : A → B) (test : B → Bool) (items : List A) → prefix_len test (map f items) ≡ prefix_len (λ item. test (f item)) items
 prefix_map f test [] = refl
@@ -41,28 +41,28 @@ entries_left source lines i line h is =
 
 -- a draft has what the lines before a place tell
 abbrev pub IsBefore : List ℕ → List Line → ℕ → Draft → Type 0
-IsBefore source lines i draft = Stands (read_after [] (map (entry_at source) lines)) (drop i (map (entry_at source) lines)) draft
+IsBefore source lines i draft = Stands (read_all (map (entry_at source) lines)) (drop i (map (entry_at source) lines)) draft
 
 pub walk_begun : (source : List ℕ) (lines : List Line) (draft : Draft) → draft ≡ no_lines → IsBefore source lines 0 draft
 unfolding told states_in rows_in
-walk_begun source lines draft e = ([], e, refl)
+walk_begun source lines draft e = ([], e, all_after (map (entry_at source) lines))
 
 pub walk_goes_on : (source : List ℕ) (lines : List Line) (i : ℕ) (line : Line) (draft next : Draft) → i < length lines → line ≡ get_or lines i line → IsBefore source lines i draft
     → draft_fault draft line.number (said_by (entry_at source line).words) ≡ None → next ≡ with_said (said_by (entry_at source line).words) draft → IsBefore source lines (i + 1) next
 walk_goes_on source lines i line draft next h is stands right grown =
-    let read = read_after [] (map (entry_at source) lines) in
+    let read = read_all (map (entry_at source) lines) in
     stands_on read (entry_at source line) (drop (i + 1) (map (entry_at source) lines)) draft next
     (subst (λ left. Stands read left draft) (entries_left source lines i line h is) stands) right grown
 
 pub walk_fails : (source : List ℕ) (lines : List Line) (i : ℕ) (line : Line) (draft next : Draft) (fault : ReadFault) → i < length lines → line ≡ get_or lines i line → IsBefore source lines i draft
-    → Takes (Err fault) next (draft_fault draft line.number (said_by (entry_at source line).words)) (with_said (said_by (entry_at source line).words) draft) → Ends (Err fault) next (read_after [] (map (entry_at source) lines))
+    → Takes (Err fault) next (draft_fault draft line.number (said_by (entry_at source line).words)) (with_said (said_by (entry_at source line).words) draft) → Ends (Err fault) next (read_all (map (entry_at source) lines))
 walk_fails source lines i line draft next (Fault fault) h is stands wrong =
-    let read = read_after [] (map (entry_at source) lines) in
+    let read = read_all (map (entry_at source) lines) in
     stands_wrong read (entry_at source line) (drop (i + 1) (map (entry_at source) lines)) draft fault
     (subst (λ left. Stands read left draft) (entries_left source lines i line h is) stands) wrong
 walk_fails source lines i line draft next Memory h is stands wrong = tt
 
-pub walk_done : (source : List ℕ) (lines : List Line) (i : ℕ) (draft : Draft) → length lines ≤ i → IsBefore source lines i draft → read_after [] (map (entry_at source) lines) ≡ whole draft
+pub walk_done : (source : List ℕ) (lines : List Line) (i : ℕ) (draft : Draft) → length lines ≤ i → IsBefore source lines i draft → read_all (map (entry_at source) lines) ≡ whole draft
 walk_done source lines i draft h stands =
-    let read = read_after [] (map (entry_at source) lines) in
+    let read = read_all (map (entry_at source) lines) in
     stands_last read draft (subst (λ left. Stands read left draft) (drop-map (entry_at source) i lines ∙ ap (map (entry_at source)) (drop_all i lines h)) stands)

@@ -18,14 +18,14 @@ use Rattle.circuit_model.specs.declared.machine.MachineRow.{MachineRow}
 use Rattle.kiss_format.specs.Keywords.{keyword_of}
 use Rattle.kiss_format.specs.Statements.{Said, Row, said_by}
 use Rattle.kiss_format.specs.Lines.{first_of, told, long_fault, is_wide, form_fault, limit_fault}
-use Rattle.kiss_format.specs.Reader.{whole, read_after}
+use Rattle.kiss_format.specs.Reader.{whole}
 use Rattle.kiss_format.specs.Steps.{with_said}
 use Rattle.kiss_format.specs.Trips.{IsWithinLimits}
 use Rattle.kiss_format.specs.declared.keyword.Keyword.TheVariants as kind
 use Rattle.kiss_format.specs.declared.draft.Draft.{Draft}
 use Rattle.kiss_format.proofs.Mentions.{same_test}
 use Rattle.kiss_format.proofs.NamedStates.{AreNamed, RowStepped, row_stepped, state_has}
-use Rattle.kiss_format.proofs.Told.{told_more, read_on}
+use Rattle.kiss_format.proofs.Told.{read_after, told_more, read_on}
 use Rattle.sis_base.specs.declared.limits.TheConstants.{MAX_MACHINE_ROWS, MAX_NAME, MAX_STATES}
 
 -- a written line as an entry

@@ -2,8 +2,8 @@
 -- describe. Source: SIS report (UCB/ERL M92/41), KISS2 tables: states are those that rows name, in
 -- order of first mention; without `.r` the machine starts in the current state of the first row
 -- that names one.
-use Rattle.std.specs.Prelude.{◌≡◌, ℕ, ◌+◌, Bool, Option, Some, None, Result, Ok, Err, List, [], ◌∷◌, ◌++◌, map, find, decimal, codes, unwrap_or}
-use Rattle.std.specs.Option.{option_map}
+use Rattle.std.specs.Prelude.{◌≡◌, ℕ, ◌+◌, Bool, Option, Some, None, Result, Ok, Err, List, [], ◌∷◌, ◌++◌, map, find, reverse, decimal, codes, unwrap_or}
+use Rattle.std.specs.Option.{option_map, option_or}
 use Rattle.std.specs.List.{filter_map, range_with_len}
 use Rattle.sis_text.specs.Entries.{Entry}
 use Rattle.circuit_model.specs.Clashes.{first_clash}
@@ -75,15 +75,24 @@ abbrev pub unless : Option KissFault → Result Machine KissFault → Result Mac
 unless None read = read
 unless (Some fault) read = Err fault
 
--- what is read after statements, newest first, of the lines that follow them: the first fault of a
--- line, then one of the whole, otherwise the machine
-unfoldable pub read_after : List Said → List Entry → Result Machine KissFault
-read_after before [] = whole (told before)
-read_after before (line ∷ lines) = unless (line_fault before line.number (said_by line.words)) (read_after (said_by line.words ∷ before) lines)
+-- the first fault of a line, in file order, after these statements
+unfoldable pub first_line_fault : List Said → List Entry → Option KissFault
+first_line_fault before [] = None
+first_line_fault before (line ∷ lines) =
+    option_or (line_fault before line.number (said_by line.words))
+    (first_line_fault (said_by line.words ∷ before) lines)
+
+-- the statements of lines, newest first
+abbrev pub statements_of : List Entry → List Said
+statements_of lines = reverse (map (λ (line : Entry). said_by line.words) lines)
+
+-- what lines are read as: the first fault of a line, then one of the whole, otherwise the machine
+unfoldable pub read_all : List Entry → Result Machine KissFault
+read_all lines = unless (first_line_fault [] lines) (whole (told (statements_of lines)))
 
 -- what a table's logical lines are read as, those before the first end
 unfoldable pub read_machine_lines : List Entry → Result Machine KissFault
-read_machine_lines lines = read_after [] (before_end lines)
+read_machine_lines lines = read_all (before_end lines)
 
 -- the number of the first line of a kind among those that are read
 abbrev pub header_line : (Keyword → Bool) → List Entry → Option ℕ

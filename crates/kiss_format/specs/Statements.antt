@@ -11,9 +11,6 @@ use Rattle.circuit_model.specs.MachineSoundness.{is_any}
 use Rattle.kiss_format.specs.Keywords.{keyword_of}
 use Rattle.kiss_format.specs.declared.keyword.Keyword.{Keyword}
 use Rattle.kiss_format.specs.declared.keyword.Keyword.TheVariants as kind
-use Rattle.kiss_format.specs.declared.statement.RowWords.{RowWords}
-use Rattle.kiss_format.specs.declared.statement.Statement.{Statement}
-use Rattle.kiss_format.specs.declared.statement.Statement.TheVariants as code
 use Rattle.sis_base.specs.declared.limits.TheConstants.{MAX_PORTS}
 
 -- a statement: a number of inputs or of outputs, the reset state, a row, nothing that the rows do
@@ -74,20 +71,6 @@ said_as kind.Other words whole = NoHeader
 -- the statement of a line's words
 unfoldable pub said_by : List (List ℕ) → Said
 said_by words = said_as (keyword_of (first_word words)) (other_words words) words
-
--- the statement of a row of the code, without its references
-abbrev pub said_row : RowWords → Said
-said_row row = Row row.input.now row.current.now row.next.now row.output.now
-
--- a statement of the code, without its references
-abbrev pub said : Statement → Said
-said (code.Inputs count) = Inputs count
-said (code.Outputs count) = Outputs count
-said (code.Reset name) = Reset name.now
-said (code.Row row) = said_row row
-said code.Nothing = Nothing
-said code.NoRow = NoRow
-said code.NoHeader = NoHeader
 
 -- the states that two words name
 abbrev pub named : List ℕ → List ℕ → List (List ℕ)

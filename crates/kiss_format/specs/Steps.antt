@@ -3,13 +3,30 @@
 use Rattle.std.specs.Prelude.{◌≡◌, ℕ, Option, Some, None, Result, Ok, Err, [], ◌∷◌, ◌++◌}
 use Rattle.std.specs.Option.{option_or}
 use Rattle.circuit_model.specs.declared.machine.Machine.{Machine}
-use Rattle.kiss_format.specs.Statements.{Said, Inputs, Outputs, Reset, Row, named}
+use Rattle.kiss_format.specs.Statements.{Said, Inputs, Outputs, Reset, Row, Nothing, NoRow, NoHeader, named}
+use Rattle.kiss_format.specs.declared.statement.RowWords.{RowWords}
+use Rattle.kiss_format.specs.declared.statement.Statement.{Statement}
+use Rattle.kiss_format.specs.declared.statement.Statement.TheVariants as code
 use Rattle.kiss_format.specs.Lines.{with_states, row_of, form_fault, limit_fault}
 use Rattle.kiss_format.specs.Reader.{whole}
 use Rattle.kiss_format.specs.declared.fault.KissFault.{KissFault}
 use Rattle.kiss_format.specs.declared.fault.ReadFault.{ReadFault}
 use Rattle.kiss_format.specs.declared.fault.ReadFault.TheVariants as read_fault
 use Rattle.kiss_format.specs.declared.draft.Draft.{Draft}
+
+-- the statement of a row of the code, without its references
+abbrev pub said_row : RowWords → Said
+said_row row = Row row.input.now row.current.now row.next.now row.output.now
+
+-- a statement of the code, without its references
+abbrev pub said : Statement → Said
+said (code.Inputs count) = Inputs count
+said (code.Outputs count) = Outputs count
+said (code.Reset name) = Reset name.now
+said (code.Row row) = said_row row
+said code.Nothing = Nothing
+said code.NoRow = NoRow
+said code.NoHeader = NoHeader
 
 -- a draft with one more statement
 abbrev pub with_said : Said → Draft → Draft

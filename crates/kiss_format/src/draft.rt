@@ -6,9 +6,8 @@
 //! an error the draft has no meaning.
 
 ghost use Rattle.std.specs.Prelude.{◌≡◌, IfOk, OnOk};
-ghost use Rattle.kiss_format.specs.Statements.{said, said_row};
 ghost use Rattle.kiss_format.specs.Lines.{row_of};
-ghost use Rattle.kiss_format.specs.Steps.{with_said, draft_fault, no_lines, Takes};
+ghost use Rattle.kiss_format.specs.Steps.{said, said_row, with_said, draft_fault, no_lines, Takes};
 
 use crate::fault::ReadFault;
 use crate::line_fault::{form_fault, limit_fault};

@@ -7,7 +7,8 @@
 
 ghost use Rattle.std.specs.Prelude.{◌≡◌};
 ghost use Rattle.line_words.specs.LineWords.{texts};
-ghost use Rattle.kiss_format.specs.Statements.{said, said_row, Reset, NoRow};
+ghost use Rattle.kiss_format.specs.Statements.{Reset, NoRow};
+ghost use Rattle.kiss_format.specs.Steps.{said, said_row};
 ghost use Rattle.kiss_format.specs.Lines.{is_wide, long_fault, ports_fault, count_fault, form_fault, limit_fault};
 
 use crate::draft::Draft;

@@ -15,7 +15,7 @@ ghost use Rattle.circuit_model.specs.MachineSoundness.{IsSoundMachine};
 ghost use Rattle.kiss_format.specs.Keywords.{kind_of, is_end_kind, before_end};
 ghost use Rattle.kiss_format.specs.Statements.{said_by};
 ghost use Rattle.kiss_format.specs.Steps.{with_said, draft_fault, no_lines, Takes, Ends, Makes};
-ghost use Rattle.kiss_format.specs.Reader.{read_after, read_machine_lines, Reads};
+ghost use Rattle.kiss_format.specs.Reader.{read_all, read_machine_lines, Reads};
 
 use crate::draft::Draft;
 use crate::fault::ReadFault;
@@ -92,7 +92,7 @@ fn take_lines(
     alloc: Global,
 ) -> Result<(), ReadFault>
     requires { draft.old ≡ no_lines }
-    ensures { Ends result draft.new (read_after [] (map (entry_at source.now) lines.now)) }
+    ensures { Ends result draft.new (read_all (map (entry_at source.now) lines.now)) }
 {
     for line in lines {
         take_line(source, line, draft, alloc)?;

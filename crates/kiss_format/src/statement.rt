@@ -6,7 +6,8 @@
 
 ghost use Rattle.std.specs.Prelude.{◌≡◌};
 ghost use Rattle.line_words.specs.LineWords.{texts};
-ghost use Rattle.kiss_format.specs.Statements.{said, said_by, of_word, of_reset, of_row};
+ghost use Rattle.kiss_format.specs.Statements.{said_by, of_word, of_reset, of_row};
+ghost use Rattle.kiss_format.specs.Steps.{said};
 
 use crate::keyword::{Keyword, keyword_of};
 use crate::number::count_in;
