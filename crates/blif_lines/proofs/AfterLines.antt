@@ -35,7 +35,7 @@ tells_last library [] back draft last t e = let same : draft ≡ last = cc in su
 tells_last library (line ∷ lines) back draft last t e =
     one_taken library line lines draft last
     (λ f rest. subst (λ told. Tells told last) (sym (newest_first line lines back))
-    (tells_last library lines (line ∷ back) (next_at library draft line) last (tells_kept library (kind_of line) line back draft refl t f) rest)) e
+    (tells_last library lines (line ∷ back) (next_at library draft line) last (tells_kept library line back draft t) rest)) e
 
 pub kept_last : (library : Option (List Gate)) (lines back : List Entry) (draft last : Draft) → Tells back draft → take_entries library draft lines ≡ Ok last → kept_of last ≡ kept_by library draft.has_part draft lines
 unfolding take_entries
@@ -43,8 +43,8 @@ kept_last library [] back draft last t e =
     let same : draft ≡ last = cc in subst (λ (one : Draft). kept_of one ≡ kept_by library draft.has_part draft []) same (kept_end library back draft t draft.has_part refl)
 kept_last library (line ∷ lines) back draft last t e =
     one_taken library line lines draft last
-    (λ f rest. kept_last library lines (line ∷ back) (next_at library draft line) last (tells_kept library (kind_of line) line back draft refl t f) rest
-    ∙ kept_on library (kind_of line) line lines back draft refl t f) e
+    (λ f rest. kept_last library lines (line ∷ back) (next_at library draft line) last (tells_kept library line back draft t) rest
+    ∙ kept_on library line lines back draft t f) e
 
 -- an instance is kept exactly if the model has one
 pub instances_last : (library : Option (List Gate)) (lines : List Entry) (last : Draft) → take_entries library no_lines lines ≡ Ok last → last.has_instances ≡ has_instances (model_lines lines)

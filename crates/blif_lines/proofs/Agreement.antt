@@ -1,8 +1,9 @@
--- The reader's steps, taken one after the other, come to what the form of a file says.
+-- The reader's steps, taken one after the other, come to what Reader says of all lines: a field of
+-- the draft, followed by what the lines ahead add to it, is the same before a line and after it.
 
 use Rattle.std.specs.Prelude.{◌≡◌, ℕ, ◌+◌, ◌-◌, ◌==◌, nat_eq, length, drop, Bool, true, false, not, ◌&&◌, ◌||◌, cond, find, Option, Some, None, Result, List, [], ◌∷◌, ◌++◌, map, reverse, take_while, codes, if◌then◌else◌}
 use Rattle.std.specs.Option.{option_or, option_map}
-use Rattle.std.proofs.Common.{refl, sym, ◌∙◌, ap, arith, eq-eqb, append_assoc, zero-add}
+use Rattle.std.proofs.Common.{refl, sym, ◌∙◌, ap, arith, eq-eqb, append_assoc}
 use Rattle.std.proofs.lemmas.List.{length-take-le, length-map, map-append, append-nil, reverse-append}
 use Rattle.std.proofs.lemmas.List.Sums.{take_while-cons, sum_by-cons}
 use Rattle.circuit_model.specs.Soundness.{outputs_of}
@@ -13,9 +14,9 @@ use Rattle.sis_text.specs.Entries.{Entry}
 use Rattle.line_words.specs.LineWords.{other_words}
 use Rattle.genlib_format.specs.declared.gate.Gate.{Gate as TheGate}
 use Rattle.blif_lines.specs.Keyword.{kind_of, is_row, is_row_kind}
-use Rattle.blif_lines.specs.Lines.{when, first_of, input_words, last_word, is_none, is_end_kind, is_ended, begins_part, has_part, begins_kiss, has_kiss, part_behind, is_behind, is_latch, is_node_kind, nodes_in, joined, output_character, has_phase_of, table_row_fault, heading, rows_behind, row_fault_under, row_fault, model_fault, ports_fault, clock_fault, names_fault, latch_fault, gate_fault, subckt_fault, start_fault, place_fault, fault_as, line_fault}
-use Rattle.blif_lines.specs.Reader.{first_line_fault, of_lines, model_lines, part_lines, listed_inputs, listed_outputs, listed_ports, listed_clocks, is_inputs_kind, is_outputs_kind, lists_inputs, lists_outputs, names_beside, inputs_in, outputs_in, ports_in, clocks_in, latch_input, latch_output, gate_tables, gate_inputs, driven_by, read_within, read_by, drives_in, reads_within, reads_in, latch_of, latches_by, latches_in, timing_of, is_latch_line, latch_lines, timing_at, first_timing, timing_in, same_timing, mixed_clock, gated_clock, row_of, phase_by, table_of, tables_by, tables_in, named_by, model_name, circuit_of, model_names_fault, whole_fault, has_nodes, is_instance_kind, has_instances, is_machine, head_of, head_fault, unless, read_whole, first_fault, read_lines}
-use Rattle.blif_lines.specs.Steps.{mark_for, width_of, reading_fault, fault_behind, next_fault, with_row, row_behind, tables_with, closed, place_at, place_of, draft_fault, with_more, timing_with, mixed_with, with_line, take_as, take_entry, take_entries, no_lines, model_of, part_of, listed_or, Kept, kept_of, timing_fault, drivers_fault, tables_fault, listed_fault, kept_fault, read_kept_as, read_kept, finished, finish}
+use Rattle.blif_lines.specs.Lines.{when, first_of, input_words, is_none, is_end_kind, is_ended, begins_part, has_part, begins_kiss, has_kiss, part_behind, is_behind, is_latch, is_node_kind, nodes_in, joined, output_character, has_phase_of, table_row_fault, heading, rows_behind, row_fault_under, row_fault, model_fault, ports_fault, clock_fault, names_fault, latch_fault, gate_fault, subckt_fault, start_fault, place_fault, fault_as, line_fault}
+use Rattle.blif_lines.specs.Reader.{first_line_fault, of_lines, model_lines, part_lines, listed_inputs, listed_outputs, listed_ports, listed_clocks, is_inputs_kind, is_outputs_kind, lists_inputs, lists_outputs, names_beside, inputs_in, outputs_in, ports_in, clocks_in, latch_output, gate_tables, driven_by, read_within, read_by, drives_in, reads_within, reads_in, latch_of, latches_by, latches_in, timing_of, is_latch_line, latch_lines, timing_at, first_timing, timing_in, same_timing, mixed_clock, gated_clock, row_of, phase_by, table_of, tables_by, tables_in, named_by, model_name, circuit_of, model_names_fault, whole_fault, has_nodes, is_instance_kind, has_instances, is_machine, head_of, head_fault, unless, read_whole, first_fault, read_lines}
+use Rattle.blif_lines.specs.Steps.{name_with, is_table_kind, begun_by, reading_with, last_with, mark_for, width_of, reading_fault, fault_behind, next_fault, with_row, row_behind, tables_with, place_at, place_of, draft_fault, with_more, timing_with, mixed_with, with_line, take_as, take_entry, take_entries, no_lines, model_of, part_of, listed_or, Kept, kept_of, timing_fault, drivers_fault, tables_fault, listed_fault, kept_fault, read_kept_as, read_kept, finished, finish}
 use Rattle.blif_lines.specs.declared.content.Content.{Content}
 use Rattle.blif_lines.specs.declared.content.Content.TheVariants as content
 use Rattle.blif_lines.specs.declared.keyword.Keyword.{Keyword}
@@ -24,17 +25,13 @@ use Rattle.blif_lines.specs.declared.fault.BlifFault.{BlifFault}
 use Rattle.blif_lines.specs.declared.fault.BlifFault.TheVariants.{UnknownWord}
 use Rattle.blif_lines.specs.declared.draft.Reading.{Reading}
 use Rattle.blif_lines.specs.declared.draft.Draft.{Draft}
-use Rattle.blif_lines.proofs.Faults.{begins, own_clock, own_latch, own_gate, own_subckt, own_start, own_place, unbegun, right_latch, right_gate}
+use Rattle.blif_lines.proofs.Faults.{begins, own_latch, own_subckt, own_place, right_latch, right_gate}
 use Rattle.blif_lines.proofs.Gates.{one_gate}
+use Rattle.blif_lines.proofs.Growing.{more_own, more_kept}
 
 -- tests
 pub same_number : (n : ℕ) → nat_eq n n ≡ true
 same_number n = eq-eqb n n refl
-
--- whether a kind is that of tables with rows of their own
-abbrev pub is_table_kind : Keyword → Bool
-is_table_kind Names = true
-is_table_kind kind = false
 
 -- the table that is being read after some lines
 abbrev pub mark_by : ℕ → List (List ℕ) → ℕ
@@ -153,13 +150,14 @@ fault_agrees library Row back draft number words whole t =
     ∙ ap (λ fault. first_of (when (is_behind (part_behind back)) (UnknownWord number) ∷ fault ∷ [])) (row_fault_is (heading back) (rows_behind back) number (joined whole))
 fault_agrees library Other back draft number words whole t = refl
 
--- the fault of one more line, by the definition and by the draft
-pub row_is : (line : Entry) (kind : Keyword) → kind_of line ≡ kind → is_row line ≡ is_row_kind kind
-row_is line kind e = ap is_row_kind e
+-- the kind and the fault of a line, beside those of the draft
+abbrev pub fault_at : Option (List TheGate) → Draft → Entry → Option BlifFault
+fault_at library draft line = draft_fault library (kind_of line) draft line.number (other_words line.words) line.words
 
-pub table_is : (line : Entry) (kind : Keyword) → kind_of line ≡ kind → is_table_kind (kind_of line) ≡ is_table_kind kind
-table_is line kind e = ap is_table_kind e
+abbrev pub next_at : Option (List TheGate) → Draft → Entry → Draft
+next_at library draft line = with_line library (kind_of line) draft line.number (other_words line.words) line.words
 
+-- the table that is being read after one more line
 pub heading_other : (line : Entry) (back : List Entry) → is_row line ≡ false → heading (line ∷ back) ≡ Some line
 heading_other line back e = rw e refl
 
@@ -180,157 +178,40 @@ pub reading_row : (line : Entry) (back : List Entry) → is_row line ≡ true �
 reading_row line back e =
     rw (heading_row line back e, rows_row line back e) (sym (row_behind_is (heading back) (rows_behind back) (joined line.words)))
 
-pub more_of : {A : Type 0} (words_of : Keyword → List (List ℕ) → List A) (line : Entry) (lines : List Entry) (kind : Keyword) → kind_of line ≡ kind → of_lines words_of (line ∷ lines) ≡ words_of kind (other_words line.words) ++ of_lines words_of lines
-more_of words_of line lines kind e = ap (λ k. words_of k (other_words line.words) ++ of_lines words_of lines) e
+begun_is : (table : Bool) (words : List (List ℕ)) → (if table then Some (record { table = table_of words []; mark = 0 }) else None) ≡ read_if table words []
+begun_is true words = refl
+begun_is false words = refl
 
-pub ended_more : (line : Entry) (back : List Entry) (kind : Keyword) → kind_of line ≡ kind → is_ended (line ∷ back) ≡ (is_end_kind kind || is_ended back)
-unfolding is_ended
-ended_more line back kind e = ap (λ k. is_end_kind k || is_ended back) e
+reading_next : (line : Entry) (back : List Entry) (draft : Draft) → draft.reading ≡ reading_of back → reading_with (kind_of line) draft (other_words line.words) line.words ≡ reading_of (line ∷ back)
+reading_next line back draft e = by (is_row line) refl
+  where
+    by : (b : Bool) → is_row line ≡ b → (if b then row_behind draft.reading (joined line.words) else begun_by (kind_of line) (other_words line.words)) ≡ reading_of (line ∷ back)
+    by true h = ap (λ reading. row_behind reading (joined line.words)) e ∙ sym (reading_row line back h)
+    by false h = begun_is (is_table_kind (kind_of line)) (other_words line.words) ∙ sym (reading_other line back h)
 
-pub part_more : (line : Entry) (back : List Entry) (kind : Keyword) → kind_of line ≡ kind → has_part (line ∷ back) ≡ (begins_part kind || has_part back)
-unfolding has_part
-part_more line back kind e = ap (λ k. begins_part k || has_part back) e
-
-pub kiss_more : (line : Entry) (lines : List Entry) (kind : Keyword) → kind_of line ≡ kind → has_kiss (line ∷ lines) ≡ (begins_kiss kind || has_kiss lines)
-unfolding has_kiss
-kiss_more line lines kind e = ap (λ k. begins_kiss k || has_kiss lines) e
-
-pub nodes_more : (line : Entry) (back : List Entry) (kind : Keyword) → kind_of line ≡ kind → nodes_in (line ∷ back) ≡ cond (is_node_kind kind) 1 0 + nodes_in back
+nodes_next : (line : Entry) (back : List Entry) (nodes : ℕ) → nodes ≡ nodes_in back → (if is_node_kind (kind_of line) then nodes + 1 else nodes) ≡ nodes_in (line ∷ back)
 unfolding nodes_in
-nodes_more line back kind e = sum_by-cons (λ (l : Entry). cond (is_node_kind (kind_of l)) 1 0) line back ∙ ap (λ k. cond (is_node_kind k) 1 0 + nodes_in back) e
+nodes_next line back nodes e = by (is_node_kind (kind_of line)) refl
+  where
+    by : (b : Bool) → is_node_kind (kind_of line) ≡ b → (if b then nodes + 1 else nodes) ≡ nodes_in (line ∷ back)
+    by true h =
+        let more : nodes_in (line ∷ back) ≡ 1 + nodes_in back = sum_by-cons (λ (l : Entry). cond (is_node_kind (kind_of l)) 1 0) line back ∙ ap (λ (b : Bool). cond {A = ℕ} b 1 0 + nodes_in back) h in
+        omega (arith, more, e)
+    by false h =
+        let more : nodes_in (line ∷ back) ≡ 0 + nodes_in back = sum_by-cons (λ (l : Entry). cond (is_node_kind (kind_of l)) 1 0) line back ∙ ap (λ (b : Bool). cond {A = ℕ} b 1 0 + nodes_in back) h in
+        omega (arith, more, e)
 
-pub reading_after : (kind : Keyword) (line : Entry) (back : List Entry) → kind_of line ≡ kind → is_row_kind kind ≡ false → reading_of (line ∷ back) ≡ read_if (is_table_kind kind) (other_words line.words) []
-reading_after kind line back e other =
-    reading_other line back (row_is line kind e ∙ other) ∙ ap (λ b. read_if b (other_words line.words) []) (table_is line kind e)
-
-pub same_nodes : (kind : Keyword) (line : Entry) (back : List Entry) → kind_of line ≡ kind → is_node_kind kind ≡ false → nodes_in back ≡ nodes_in (line ∷ back)
-same_nodes kind line back e none =
-    sym (nodes_more line back kind e ∙ (ap (λ (b : Bool). cond {A = ℕ} b 1 0 + nodes_in back) none ∙ zero-add (nodes_in back)))
-
-pub one_node_more : (kind : Keyword) (line : Entry) (back : List Entry) → kind_of line ≡ kind → is_node_kind kind ≡ true → nodes_in back + 1 ≡ nodes_in (line ∷ back)
-one_node_more kind line back e is =
-    let more : nodes_in (line ∷ back) ≡ 1 + nodes_in back = nodes_more line back kind e ∙ ap (λ (b : Bool). cond {A = ℕ} b 1 0 + nodes_in back) is in omega (arith, more)
-
-pub tells_kept : (library : Option (List TheGate)) (kind : Keyword) (line : Entry) (back : List Entry) (draft : Draft) → kind_of line ≡ kind → Tells back draft → draft_fault library kind draft line.number (other_words line.words) line.words ≡ None → Tells (line ∷ back) (with_line library kind draft line.number (other_words line.words) line.words)
-unfolding closed
-tells_kept library Model line back draft e t f = record {
+pub tells_kept : (library : Option (List TheGate)) (line : Entry) (back : List Entry) (draft : Draft) → Tells back draft → Tells (line ∷ back) (next_at library draft line)
+unfolding is_ended has_part has_kiss
+tells_kept library line back draft t = record {
   begun = refl;
   unnamed = λ h. absurd (cc);
-  ended = t.ended ∙ sym (ended_more line back Model e);
-  part = t.part ∙ sym (part_more line back Model e);
-  kiss = t.kiss ∙ sym (kiss_more line back Model e);
-  nodes = t.nodes ∙ same_nodes Model line back e refl;
-  reading = sym (reading_after Model line back e refl);
+  ended = ap (λ b. is_end_kind (kind_of line) || b) t.ended;
+  part = ap (λ b. begins_part (kind_of line) || b) t.part;
+  kiss = ap (λ b. begins_kiss (kind_of line) || b) t.kiss;
+  nodes = nodes_next line back draft.nodes t.nodes;
+  reading = reading_next line back draft t.reading;
 }
-tells_kept library Inputs line back draft e t f = record {
-  begun = refl;
-  unnamed = λ h. absurd (cc);
-  ended = t.ended ∙ sym (ended_more line back Inputs e);
-  part = t.part ∙ sym (part_more line back Inputs e);
-  kiss = t.kiss ∙ sym (kiss_more line back Inputs e);
-  nodes = t.nodes ∙ same_nodes Inputs line back e refl;
-  reading = sym (reading_after Inputs line back e refl);
-}
-tells_kept library Outputs line back draft e t f = record {
-  begun = refl;
-  unnamed = λ h. absurd (cc);
-  ended = t.ended ∙ sym (ended_more line back Outputs e);
-  part = t.part ∙ sym (part_more line back Outputs e);
-  kiss = t.kiss ∙ sym (kiss_more line back Outputs e);
-  nodes = t.nodes ∙ same_nodes Outputs line back e refl;
-  reading = sym (reading_after Outputs line back e refl);
-}
-tells_kept library Clock line back draft e t f = record {
-  begun = refl;
-  unnamed = λ h. absurd (cc);
-  ended = t.ended ∙ sym (ended_more line back Clock e);
-  part = t.part ∙ sym (part_more line back Clock e);
-  kiss = t.kiss ∙ sym (kiss_more line back Clock e);
-  nodes = t.nodes ∙ same_nodes Clock line back e refl;
-  reading = sym (reading_after Clock line back e refl);
-}
-tells_kept library Names line back draft e t f = record {
-  begun = refl;
-  unnamed = λ h. absurd (cc);
-  ended = t.ended ∙ sym (ended_more line back Names e);
-  part = t.part ∙ sym (part_more line back Names e);
-  kiss = t.kiss ∙ sym (kiss_more line back Names e);
-  nodes = ap (λ n. n + 1) t.nodes ∙ one_node_more Names line back e refl;
-  reading = sym (reading_after Names line back e refl);
-}
-tells_kept library Latch line back draft e t f = record {
-  begun = refl;
-  unnamed = λ h. absurd (cc);
-  ended = t.ended ∙ sym (ended_more line back Latch e);
-  part = t.part ∙ sym (part_more line back Latch e);
-  kiss = t.kiss ∙ sym (kiss_more line back Latch e);
-  nodes = ap (λ n. n + 1) t.nodes ∙ one_node_more Latch line back e refl;
-  reading = sym (reading_after Latch line back e refl);
-}
-tells_kept library Gate line back draft e t f = record {
-  begun = refl;
-  unnamed = λ h. absurd (cc);
-  ended = t.ended ∙ sym (ended_more line back Gate e);
-  part = t.part ∙ sym (part_more line back Gate e);
-  kiss = t.kiss ∙ sym (kiss_more line back Gate e);
-  nodes = ap (λ n. n + 1) t.nodes ∙ one_node_more Gate line back e refl;
-  reading = sym (reading_after Gate line back e refl);
-}
-tells_kept library Subckt line back draft e t f = record {
-  begun = refl;
-  unnamed = λ h. absurd (cc);
-  ended = t.ended ∙ sym (ended_more line back Subckt e);
-  part = t.part ∙ sym (part_more line back Subckt e);
-  kiss = t.kiss ∙ sym (kiss_more line back Subckt e);
-  nodes = t.nodes ∙ same_nodes Subckt line back e refl;
-  reading = sym (reading_after Subckt line back e refl);
-}
-tells_kept library StartKiss line back draft e t f = record {
-  begun = refl;
-  unnamed = λ h. absurd (cc);
-  ended = t.ended ∙ sym (ended_more line back StartKiss e);
-  part = t.part ∙ sym (part_more line back StartKiss e);
-  kiss = sym (kiss_more line back StartKiss e);
-  nodes = t.nodes ∙ same_nodes StartKiss line back e refl;
-  reading = sym (reading_after StartKiss line back e refl);
-}
-tells_kept library DontCare line back draft e t f = record {
-  begun = refl;
-  unnamed = λ h. absurd (cc);
-  ended = t.ended ∙ sym (ended_more line back DontCare e);
-  part = sym (part_more line back DontCare e);
-  kiss = t.kiss ∙ sym (kiss_more line back DontCare e);
-  nodes = t.nodes ∙ same_nodes DontCare line back e refl;
-  reading = sym (reading_after DontCare line back e refl);
-}
-tells_kept library End line back draft e t f = record {
-  begun = refl;
-  unnamed = λ h. absurd (cc);
-  ended = sym (ended_more line back End e);
-  part = t.part ∙ sym (part_more line back End e);
-  kiss = t.kiss ∙ sym (kiss_more line back End e);
-  nodes = t.nodes ∙ same_nodes End line back e refl;
-  reading = sym (reading_after End line back e refl);
-}
-tells_kept library Skipped line back draft e t f = record {
-  begun = refl;
-  unnamed = λ h. absurd (cc);
-  ended = t.ended ∙ sym (ended_more line back Skipped e);
-  part = t.part ∙ sym (part_more line back Skipped e);
-  kiss = t.kiss ∙ sym (kiss_more line back Skipped e);
-  nodes = t.nodes ∙ same_nodes Skipped line back e refl;
-  reading = sym (reading_after Skipped line back e refl);
-}
-tells_kept library Row line back draft e t f = record {
-  begun = refl;
-  unnamed = λ h. absurd (cc);
-  ended = t.ended ∙ sym (ended_more line back Row e);
-  part = t.part ∙ sym (part_more line back Row e);
-  kiss = t.kiss ∙ sym (kiss_more line back Row e);
-  nodes = t.nodes ∙ same_nodes Row line back e refl;
-  reading = ap (λ reading. row_behind reading (joined line.words)) t.reading ∙ sym (reading_row line back (row_is line Row e));
-}
-tells_kept library Other line back draft e t f = absurd (cc)
 
 -- what is read in the end of a draft and the lines that follow
 pub with_rows : Reading → List (List ℕ) → Table
@@ -357,13 +238,9 @@ name_after true name lines = name
 name_after false name lines = model_name lines
 
 -- the names that tables, latches and gates read before a line of inputs
-abbrev pub inner_by : Option (List TheGate) → Keyword → List (List ℕ) → List (List ℕ) → List (List ℕ)
-inner_by library Inputs words rest = []
-inner_by library kind words rest = read_within library kind words ++ rest
-
 unfoldable pub inner_in : Option (List TheGate) → List Entry → List (List ℕ)
 inner_in library [] = []
-inner_in library (line ∷ lines) = inner_by library (kind_of line) (other_words line.words) (inner_in library lines)
+inner_in library (line ∷ lines) = read_within library (kind_of line) (other_words line.words) ++ (if is_inputs_kind (kind_of line) then [] else inner_in library lines)
 
 abbrev pub inner_after : Option (List TheGate) → Bool → List (List ℕ) → List Entry → List (List ℕ)
 inner_after library true inner lines = inner
@@ -380,10 +257,10 @@ abbrev pub mixed_after : Option ℕ → Option Timing → List Entry → Option 
 mixed_after None timing lines = option_map (λ (line : Entry). line.number) (find (λ line. not (same_timing timing (timing_at line))) lines)
 mixed_after (Some number) timing lines = Some number
 
--- what is kept in the end of a draft in the model, where these lines of the model and these tables
--- of the part follow
-abbrev pub kept_from : Option (List TheGate) → Draft → List Entry → List Entry → List Table → Kept
-kept_from library draft lines own part = record {
+-- what is kept in the end of a draft, where these lines follow, these of the model itself, with
+-- these tables and those of the don't-care part
+abbrev pub kept_after : Option (List TheGate) → Draft → List Entry → List Entry → List Table → List Table → Kept
+kept_after library draft lines own tables part = record {
   has_kiss = draft.has_kiss || has_kiss lines;
   has_instances = draft.has_instances || has_instances own;
   name = name_after draft.begun draft.name lines;
@@ -399,35 +276,17 @@ kept_from library draft lines own part = record {
   timing = timing_after draft.latches draft.timing (latch_lines own);
   mixed = mixed_after draft.mixed (timing_after draft.latches draft.timing (latch_lines own)) (latch_lines own);
   latches = draft.latches ++ of_lines latches_by own;
-  tables = draft.tables ++ tables_after library draft.reading own;
+  tables = tables;
   dont_care = part;
 }
 
--- what is kept in the end of a draft in the don't-care part, where these lines follow
-abbrev pub kept_part : Option (List TheGate) → Draft → List Entry → Kept
-kept_part library draft lines = record {
-  has_kiss = draft.has_kiss || has_kiss lines;
-  has_instances = draft.has_instances;
-  name = name_after draft.begun draft.name lines;
-  lists_inputs = draft.lists_inputs;
-  inputs = draft.inputs;
-  lists_outputs = draft.lists_outputs;
-  outputs = draft.outputs;
-  ports = draft.ports;
-  clocks = draft.clocks;
-  drives = draft.drives;
-  reads = draft.reads;
-  inner = draft.inner;
-  timing = draft.timing;
-  mixed = draft.mixed;
-  latches = draft.latches;
-  tables = draft.model_tables;
-  dont_care = draft.tables ++ tables_after library draft.reading lines;
-}
+-- the tables in the end of a draft, where these lines follow in its part
+abbrev pub last_tables : Option (List TheGate) → Draft → List Entry → List Table
+last_tables library draft lines = draft.tables ++ tables_after library draft.reading lines
 
 abbrev pub kept_by : Option (List TheGate) → Bool → Draft → List Entry → Kept
-kept_by library true draft lines = kept_part library draft lines
-kept_by library false draft lines = kept_from library draft lines (model_lines lines) (tables_in library (part_lines lines))
+kept_by library true draft lines = kept_after library draft lines [] draft.model_tables (last_tables library draft lines)
+kept_by library false draft lines = kept_after library draft lines (model_lines lines) (last_tables library draft (model_lines lines)) (tables_in library (part_lines lines))
 
 abbrev pub finished_by : Option (List TheGate) → Draft → List Entry → Result Content BlifFault
 finished_by library draft lines = read_kept (kept_by library draft.has_part draft lines)
@@ -462,104 +321,160 @@ kept_same k l z r a b c d e f g h i j m n o p q = same k.has_kiss k.has_instance
         → kept_with kiss instances name li inputs lo outputs ports clocks drives reads inner timing mixed latches tables dont_care ≡ l
     same kiss instances name li inputs lo outputs ports clocks drives reads inner timing mixed latches tables dont_care z r a b c d e f g h i j m n o p q = rw (z, r, a, b, c, d, e, f, g, h, i, j, m, n, o, p, q) refl
 
--- a field of the draft with what a line appends to it, and the lines that follow
-pub put_more : {A : Type 0} (words_of : Keyword → List (List ℕ) → List A) (before : List A) (kind : Keyword) (line : Entry) (lines : List Entry) → kind_of line ≡ kind → (before ++ words_of kind (other_words line.words)) ++ of_lines words_of lines ≡ before ++ of_lines words_of (line ∷ lines)
-put_more words_of before kind line lines e =
-    append_assoc before (words_of kind (other_words line.words)) (of_lines words_of lines) ∙ ap (λ rest. before ++ rest) (sym (more_of words_of line lines kind e))
+-- what a line without a fault is: a latch is right, and a line of the model alone does not come
+-- after the line that begins the part
+record Right (kind : Keyword) (draft : Draft) (words : List (List ℕ)) : Type 0 where
+  latch : is_latch_line kind ≡ true → is_latch words ≡ true
+  instances : draft.has_part ≡ true → is_instance_kind kind ≡ false
+  latches : draft.has_part ≡ true → is_latch_line kind ≡ false
+  part : draft.has_part ≡ true → begins_part kind ≡ false
 
-pub put_none : {A : Type 0} (words_of : Keyword → List (List ℕ) → List A) (before : List A) (kind : Keyword) (line : Entry) (lines : List Entry) → kind_of line ≡ kind → words_of kind (other_words line.words) ≡ [] → before ++ of_lines words_of lines ≡ before ++ of_lines words_of (line ∷ lines)
-put_none words_of before kind line lines e none =
-    ap (λ rest. before ++ rest) (sym (more_of words_of line lines kind e ∙ ap (λ more. more ++ of_lines words_of lines) none))
+plain : (kind : Keyword) (draft : Draft) (words : List (List ℕ)) → is_instance_kind kind ≡ false → is_latch_line kind ≡ false → begins_part kind ≡ false → Right kind draft words
+plain kind draft words i l p = record { latch = λ h. absurd (cc); instances = λ h. i; latches = λ h. l; part = λ h. p }
 
--- the same where a list grows in the model alone
-pub put_grown : (words_of : Keyword → List (List ℕ) → List (List ℕ)) (had : Bool) (before : List (List ℕ)) (kind : Keyword) (line : Entry) (lines : List Entry) → kind_of line ≡ kind → had ≡ false → with_more had before (words_of kind (other_words line.words)) ++ of_lines words_of lines ≡ before ++ of_lines words_of (line ∷ lines)
-put_grown words_of true before kind line lines e h = absurd (cc)
-put_grown words_of false before kind line lines e h = put_more words_of before kind line lines e
+right_line : (library : Option (List TheGate)) (kind : Keyword) (draft : Draft) (number : ℕ) (words whole : List (List ℕ)) → draft_fault library kind draft number words whole ≡ None → Right kind draft words
+right_line library Model draft number words whole f = plain Model draft words refl refl refl
+right_line library Inputs draft number words whole f = plain Inputs draft words refl refl refl
+right_line library Outputs draft number words whole f = plain Outputs draft words refl refl refl
+right_line library Clock draft number words whole f = plain Clock draft words refl refl refl
+right_line library Names draft number words whole f = plain Names draft words refl refl refl
+right_line library Latch draft number words whole f = record {
+  latch = λ h. right_latch (place_of draft) draft.nodes number words f;
+  instances = λ h. refl;
+  latches = λ h. absurd (own_latch draft.ended draft.has_part draft.nodes number words h f);
+  part = λ h. refl;
+}
+right_line library Gate draft number words whole f = plain Gate draft words refl refl refl
+right_line library Subckt draft number words whole f = record {
+  latch = λ h. absurd (cc);
+  instances = λ h. absurd (own_subckt draft.ended draft.has_part number words h f);
+  latches = λ h. refl;
+  part = λ h. refl;
+}
+right_line library StartKiss draft number words whole f = plain StartKiss draft words refl refl refl
+right_line library DontCare draft number words whole f = record {
+  latch = λ h. absurd (cc);
+  instances = λ h. refl;
+  latches = λ h. refl;
+  part = λ h. absurd (own_place draft.ended draft.has_part number h f);
+}
+right_line library End draft number words whole f = plain End draft words refl refl refl
+right_line library Skipped draft number words whole f = plain Skipped draft words refl refl refl
+right_line library Row draft number words whole f = plain Row draft words refl refl refl
+right_line library Other draft number words whole f = plain Other draft words refl refl refl
 
-pub not_grown : (had : Bool) (before more : List (List ℕ)) → had ≡ true → with_more had before more ≡ before
-not_grown true before more h = refl
-not_grown false before more h = absurd (cc)
+-- a field of the draft with what a line adds to it, and the lines that follow
+pub put_more : {A : Type 0} (words_of : Keyword → List (List ℕ) → List A) (had : Bool) (before : List A) (line : Entry) (lines : List Entry) → had ≡ false → with_more had before (words_of (kind_of line) (other_words line.words)) ++ of_lines words_of lines ≡ before ++ of_lines words_of (line ∷ lines)
+put_more words_of had before line lines h =
+    let more = words_of (kind_of line) (other_words line.words) in
+    ap (λ items. items ++ of_lines words_of lines) (more_own had before more h) ∙ append_assoc before more (of_lines words_of lines)
 
-pub inputs_listed_more : (line : Entry) (lines : List Entry) (kind : Keyword) → kind_of line ≡ kind → lists_inputs (line ∷ lines) ≡ (is_inputs_kind kind || lists_inputs lines)
-unfolding lists_inputs
-inputs_listed_more line lines kind e = ap (λ k. is_inputs_kind k || lists_inputs lines) e
+swap : (a b c : Bool) → ((a || b) || c) ≡ (b || (a || c))
+swap true true c = refl
+swap true false c = refl
+swap false b c = refl
 
-pub outputs_listed_more : (line : Entry) (lines : List Entry) (kind : Keyword) → kind_of line ≡ kind → lists_outputs (line ∷ lines) ≡ (is_outputs_kind kind || lists_outputs lines)
-unfolding lists_outputs
-outputs_listed_more line lines kind e = ap (λ k. is_outputs_kind k || lists_outputs lines) e
-
-pub no_inputs_listed : (before : Bool) (kind : Keyword) (line : Entry) (lines : List Entry) → kind_of line ≡ kind → is_inputs_kind kind ≡ false → (before || lists_inputs lines) ≡ (before || lists_inputs (line ∷ lines))
-no_inputs_listed before kind line lines e unlike = ap (λ b. before || b) (sym (inputs_listed_more line lines kind e ∙ ap (λ b. b || lists_inputs lines) unlike))
-
-pub no_outputs_listed : (before : Bool) (kind : Keyword) (line : Entry) (lines : List Entry) → kind_of line ≡ kind → is_outputs_kind kind ≡ false → (before || lists_outputs lines) ≡ (before || lists_outputs (line ∷ lines))
-no_outputs_listed before kind line lines e unlike = ap (λ b. before || b) (sym (outputs_listed_more line lines kind e ∙ ap (λ b. b || lists_outputs lines) unlike))
-
-pub instances_more : (line : Entry) (lines : List Entry) (kind : Keyword) → kind_of line ≡ kind → has_instances (line ∷ lines) ≡ (is_instance_kind kind || has_instances lines)
-unfolding has_instances
-instances_more line lines kind e = ap (λ k. is_instance_kind k || has_instances lines) e
-
-pub no_instance : (before : Bool) (kind : Keyword) (line : Entry) (lines : List Entry) → kind_of line ≡ kind → is_instance_kind kind ≡ false → (before || has_instances lines) ≡ (before || has_instances (line ∷ lines))
-no_instance before kind line lines e unlike = ap (λ b. before || b) (sym (instances_more line lines kind e ∙ ap (λ b. b || has_instances lines) unlike))
-
-pub no_kiss : (before : Bool) (kind : Keyword) (line : Entry) (lines : List Entry) → kind_of line ≡ kind → begins_kiss kind ≡ false → (before || has_kiss lines) ≡ (before || has_kiss (line ∷ lines))
-no_kiss before kind line lines e unlike = ap (λ b. before || b) (sym (kiss_more line lines kind e ∙ ap (λ b. b || has_kiss lines) unlike))
-
-pub either : (a b : Bool) → b ≡ true → (a || b) ≡ true
+either : (a b : Bool) → b ≡ true → (a || b) ≡ true
 either true b e = refl
 either false b e = e
 
-pub now_listed : (had before rest : Bool) → had ≡ false → ((not had || before) || rest) ≡ (before || (true || rest))
-now_listed true before rest h = absurd (cc)
-now_listed false true rest h = refl
-now_listed false false rest h = refl
+listed : (a had b c : Bool) → had ≡ false → ((a && not had || b) || c) ≡ (b || (a || c))
+listed a true b c h = absurd (cc)
+listed true false true c h = refl
+listed true false false c h = refl
+listed false false b c h = refl
 
-pub still_listed : (had before : Bool) → had ≡ true → (not had || before) ≡ before
-still_listed true before h = refl
-still_listed false before h = absurd (cc)
+still_listed : (a had b : Bool) → had ≡ true → (a && not had || b) ≡ b
+still_listed true true b h = refl
+still_listed false true b h = refl
+still_listed a false b h = absurd (cc)
 
-pub inner_line : (library : Option (List TheGate)) (line : Entry) (lines : List Entry) (kind : Keyword) → kind_of line ≡ kind → inner_in library (line ∷ lines) ≡ inner_by library kind (other_words line.words) (inner_in library lines)
+inner_next : (library : Option (List TheGate)) (had lists : Bool) (inner : List (List ℕ)) (line : Entry) (lines : List Entry) → had ≡ false
+    → inner_after library (is_inputs_kind (kind_of line) && not had || lists) (with_more (had || lists) inner (read_within library (kind_of line) (other_words line.words))) lines ≡ inner_after library lists inner (line ∷ lines)
 unfolding inner_in
-inner_line library line lines kind e = ap (λ k. inner_by library k (other_words line.words) (inner_in library lines)) e
+inner_next library true lists inner line lines h = absurd (cc)
+inner_next library false true inner line lines h = by (is_inputs_kind (kind_of line))
+  where
+    more : List (List ℕ)
+    more = with_more true inner (read_within library (kind_of line) (other_words line.words))
 
-pub inner_other : (library : Option (List TheGate)) (lists : Bool) (inner : List (List ℕ)) (kind : Keyword) (line : Entry) (lines : List Entry) → kind_of line ≡ kind → inner_by library kind (other_words line.words) (inner_in library lines) ≡ inner_in library lines → inner_after library lists inner lines ≡ inner_after library lists inner (line ∷ lines)
-inner_other library true inner kind line lines e unlike = refl
-inner_other library false inner kind line lines e unlike = ap (λ rest. inner ++ rest) (sym (inner_line library line lines kind e ∙ unlike))
+    by : (inputs : Bool) → inner_after library (inputs && true || true) more lines ≡ inner
+    by true = more_kept true inner (read_within library (kind_of line) (other_words line.words)) refl
+    by false = more_kept true inner (read_within library (kind_of line) (other_words line.words)) refl
+inner_next library false false inner line lines h = by (is_inputs_kind (kind_of line))
+  where
+    more : List (List ℕ)
+    more = read_within library (kind_of line) (other_words line.words)
 
-pub inner_more : (library : Option (List TheGate)) (had lists : Bool) (inner more : List (List ℕ)) (kind : Keyword) (line : Entry) (lines : List Entry) → kind_of line ≡ kind → had ≡ false → inner_by library kind (other_words line.words) (inner_in library lines) ≡ more ++ inner_in library lines → inner_after library lists (with_more (had || lists) inner more) lines ≡ inner_after library lists inner (line ∷ lines)
-inner_more library true lists inner more kind line lines e h by = absurd (cc)
-inner_more library false true inner more kind line lines e h by = refl
-inner_more library false false inner more kind line lines e h by = append_assoc inner more (inner_in library lines) ∙ ap (λ rest. inner ++ rest) (sym (inner_line library line lines kind e ∙ by))
+    by : (inputs : Bool) → inner_after library (inputs && true || false) (with_more false inner more) lines ≡ inner ++ (more ++ (if inputs then [] else inner_in library lines))
+    by true = more_own false inner more refl ∙ ap (λ rest. inner ++ rest) (sym (append-nil more))
+    by false = ap (λ names. names ++ inner_in library lines) (more_own false inner more refl) ∙ append_assoc inner more (inner_in library lines)
 
-pub inner_ended : (library : Option (List TheGate)) (had lists : Bool) (inner : List (List ℕ)) (line : Entry) (lines : List Entry) → kind_of line ≡ Inputs → had ≡ false → inner_after library (not had || lists) inner lines ≡ inner_after library lists inner (line ∷ lines)
-inner_ended library true lists inner line lines e h = absurd (cc)
-inner_ended library false true inner line lines e h = refl
-inner_ended library false false inner line lines e h = sym (ap (λ rest. inner ++ rest) (inner_line library line lines Inputs e) ∙ append-nil inner)
-
-pub latches_other : (kind : Keyword) (line : Entry) (lines : List Entry) → kind_of line ≡ kind → is_latch_line kind ≡ false → latch_lines lines ≡ latch_lines (line ∷ lines)
-latches_other kind line lines e unlike = let is : is_latch_line (kind_of line) ≡ false = ap is_latch_line e ∙ unlike in rw is refl
-
-pub latches_one : (line : Entry) (lines : List Entry) → kind_of line ≡ Latch → line ∷ latch_lines lines ≡ latch_lines (line ∷ lines)
-latches_one line lines e = let is : is_latch_line (kind_of line) ≡ true = ap is_latch_line e in rw is refl
-
-pub timing_latch : (latches : List TheLatch) (timing : Option Timing) (words : List (List ℕ)) (line : Entry) (lines : List Entry) → other_words line.words ≡ words → is_latch words ≡ true → timing_after (latches ++ latch_of words) (timing_with latches timing (timing_of words)) lines ≡ timing_after latches timing (line ∷ lines)
+timing_latch : (latches : List TheLatch) (timing : Option Timing) (words : List (List ℕ)) (line : Entry) (lines : List Entry) → other_words line.words ≡ words → is_latch words ≡ true → timing_after (latches ++ latch_of words) (timing_with latches timing (timing_of words)) lines ≡ timing_after latches timing (line ∷ lines)
 unfolding timing_with
 timing_latch (latch ∷ latches) timing words line lines e is = refl
 timing_latch [] timing [] line lines e is = absurd (cc)
 timing_latch [] timing (input ∷ []) line lines e is = absurd (cc)
 timing_latch [] timing (input ∷ output ∷ words) line lines e is = sym (ap timing_of e)
 
-pub shared_timing : (latches : List TheLatch) (timing : Option Timing) (line : Entry) (lines : List Entry) → timing_with latches timing (timing_at line) ≡ timing_after latches timing (line ∷ lines)
+shared_timing : (latches : List TheLatch) (timing : Option Timing) (line : Entry) (lines : List Entry) → timing_with latches timing (timing_at line) ≡ timing_after latches timing (line ∷ lines)
 unfolding timing_with
 shared_timing [] timing line lines = refl
 shared_timing (latch ∷ latches) timing line lines = refl
 
-pub mixed_latch : (mixed : Option ℕ) (timing : Option Timing) (line : Entry) (lines : List Entry) → mixed_after (mixed_with mixed timing line.number (timing_at line)) timing lines ≡ mixed_after mixed timing (line ∷ lines)
+mixed_latch : (mixed : Option ℕ) (timing : Option Timing) (line : Entry) (lines : List Entry) → mixed_after (mixed_with mixed timing line.number (timing_at line)) timing lines ≡ mixed_after mixed timing (line ∷ lines)
 unfolding mixed_with
 mixed_latch (Some number) timing line lines = refl
 mixed_latch None timing line lines = by (same_timing timing (timing_at line))
   where
     by : (b : Bool) → mixed_after (if b then None else Some line.number) timing lines ≡ option_map (λ (one : Entry). one.number) (cond (not b) (Some line) (find (λ one. not (same_timing timing (timing_at one))) lines))
     by true = refl
+    by false = refl
+
+timing_next : (line : Entry) (lines : List Entry) (latches : List TheLatch) (timing : Option Timing) → (is_latch_line (kind_of line) ≡ true → is_latch (other_words line.words) ≡ true)
+    → timing_after (if is_latch_line (kind_of line) then latches ++ latch_of (other_words line.words) else latches) (if is_latch_line (kind_of line) then timing_with latches timing (timing_at line) else timing) (latch_lines lines) ≡ timing_after latches timing (latch_lines (line ∷ lines))
+timing_next line lines latches timing right = by (is_latch_line (kind_of line)) right
+  where
+    by : (b : Bool) → (b ≡ true → is_latch (other_words line.words) ≡ true)
+        → timing_after (if b then latches ++ latch_of (other_words line.words) else latches) (if b then timing_with latches timing (timing_at line) else timing) (latch_lines lines) ≡ timing_after latches timing (if b then line ∷ latch_lines lines else latch_lines lines)
+    by true is = timing_latch latches timing (other_words line.words) line (latch_lines lines) refl (is refl)
+    by false is = refl
+
+mixed_next : (line : Entry) (lines : List Entry) (latches : List TheLatch) (timing : Option Timing) (mixed : Option ℕ) (after : Option Timing) → after ≡ timing_after latches timing (latch_lines (line ∷ lines))
+    → mixed_after (if is_latch_line (kind_of line) then mixed_with mixed (timing_with latches timing (timing_at line)) line.number (timing_at line) else mixed) after (latch_lines lines) ≡ mixed_after mixed (timing_after latches timing (latch_lines (line ∷ lines))) (latch_lines (line ∷ lines))
+mixed_next line lines latches timing mixed after is = by (is_latch_line (kind_of line)) is
+  where
+    by : (b : Bool) → after ≡ timing_after latches timing (if b then line ∷ latch_lines lines else latch_lines lines)
+        → mixed_after (if b then mixed_with mixed (timing_with latches timing (timing_at line)) line.number (timing_at line) else mixed) after (latch_lines lines)
+        ≡ mixed_after mixed (timing_after latches timing (if b then line ∷ latch_lines lines else latch_lines lines)) (if b then line ∷ latch_lines lines else latch_lines lines)
+    by true e =
+        ap (λ (t : Option Timing). mixed_after (mixed_with mixed (timing_with latches timing (timing_at line)) line.number (timing_at line)) t (latch_lines lines)) e
+        ∙ ap (λ (t : Option Timing). mixed_after (mixed_with mixed t line.number (timing_at line)) (timing_after latches timing (line ∷ latch_lines lines)) (latch_lines lines)) (shared_timing latches timing line (latch_lines lines))
+        ∙ mixed_latch mixed (timing_after latches timing (line ∷ latch_lines lines)) line (latch_lines lines)
+    by false e = ap (λ (t : Option Timing). mixed_after mixed t (latch_lines lines)) e
+
+latches_are : (kind : Keyword) (words : List (List ℕ)) → latches_by kind words ≡ (if is_latch_line kind then latch_of words else [])
+latches_are Model words = refl
+latches_are Inputs words = refl
+latches_are Outputs words = refl
+latches_are Clock words = refl
+latches_are Names words = refl
+latches_are Latch words = refl
+latches_are Gate words = refl
+latches_are Subckt words = refl
+latches_are StartKiss words = refl
+latches_are DontCare words = refl
+latches_are End words = refl
+latches_are Skipped words = refl
+latches_are Row words = refl
+latches_are Other words = refl
+
+latches_next : (line : Entry) (lines : List Entry) (latches : List TheLatch) → (if is_latch_line (kind_of line) then latches ++ latch_of (other_words line.words) else latches) ++ of_lines latches_by lines ≡ latches ++ of_lines latches_by (line ∷ lines)
+latches_next line lines latches =
+    by (is_latch_line (kind_of line)) ∙ ap (λ own. latches ++ (own ++ of_lines latches_by lines)) (sym (latches_are (kind_of line) (other_words line.words)))
+  where
+    by : (b : Bool) → (if b then latches ++ latch_of (other_words line.words) else latches) ++ of_lines latches_by lines ≡ latches ++ ((if b then latch_of (other_words line.words) else []) ++ of_lines latches_by lines)
+    by true = append_assoc latches (latch_of (other_words line.words)) (of_lines latches_by lines)
     by false = refl
 
 pub name_other : (line : Entry) (lines : List Entry) → named_by (kind_of line) (other_words line.words) ≡ codes "top" → (begun : Bool) (name : List ℕ) → (begun ≡ false → name ≡ codes "top") → name ≡ name_after begun name (line ∷ lines)
@@ -570,6 +485,23 @@ name_other line lines e false name h = h refl ∙ sym e
 pub model_named : (line : Entry) (lines : List Entry) (begun : Bool) (name : List ℕ) → kind_of line ≡ Model → begun ≡ false → named_by Model (other_words line.words) ≡ name_after begun name (line ∷ lines)
 unfolding model_name
 model_named line lines begun name e none = rw none (sym (ap (λ k. named_by k (other_words line.words)) e))
+
+name_next : (library : Option (List TheGate)) (kind : Keyword) (line : Entry) (lines : List Entry) (back : List Entry) (draft : Draft) → kind_of line ≡ kind → Tells back draft → draft_fault library kind draft line.number (other_words line.words) line.words ≡ None
+    → name_with kind draft.name (other_words line.words) ≡ name_after draft.begun draft.name (line ∷ lines)
+name_next library Model line lines back draft e t f = model_named line lines draft.begun draft.name e (begins draft.begun line.number (other_words line.words) f)
+name_next library Inputs line lines back draft e t f = name_other line lines (ap (λ k. named_by k (other_words line.words)) e) draft.begun draft.name t.unnamed
+name_next library Outputs line lines back draft e t f = name_other line lines (ap (λ k. named_by k (other_words line.words)) e) draft.begun draft.name t.unnamed
+name_next library Clock line lines back draft e t f = name_other line lines (ap (λ k. named_by k (other_words line.words)) e) draft.begun draft.name t.unnamed
+name_next library Names line lines back draft e t f = name_other line lines (ap (λ k. named_by k (other_words line.words)) e) draft.begun draft.name t.unnamed
+name_next library Latch line lines back draft e t f = name_other line lines (ap (λ k. named_by k (other_words line.words)) e) draft.begun draft.name t.unnamed
+name_next library Gate line lines back draft e t f = name_other line lines (ap (λ k. named_by k (other_words line.words)) e) draft.begun draft.name t.unnamed
+name_next library Subckt line lines back draft e t f = name_other line lines (ap (λ k. named_by k (other_words line.words)) e) draft.begun draft.name t.unnamed
+name_next library StartKiss line lines back draft e t f = name_other line lines (ap (λ k. named_by k (other_words line.words)) e) draft.begun draft.name t.unnamed
+name_next library DontCare line lines back draft e t f = name_other line lines (ap (λ k. named_by k (other_words line.words)) e) draft.begun draft.name t.unnamed
+name_next library End line lines back draft e t f = name_other line lines (ap (λ k. named_by k (other_words line.words)) e) draft.begun draft.name t.unnamed
+name_next library Skipped line lines back draft e t f = name_other line lines (ap (λ k. named_by k (other_words line.words)) e) draft.begun draft.name t.unnamed
+name_next library Row line lines back draft e t f = name_other line lines (ap (λ k. named_by k (other_words line.words)) e) draft.begun draft.name t.unnamed
+name_next library Other line lines back draft e t f = name_other line lines (ap (λ k. named_by k (other_words line.words)) e) draft.begun draft.name t.unnamed
 
 pub tables_more : (library : Option (List TheGate)) (kind : Keyword) (line : Entry) (lines : List Entry) → kind_of line ≡ kind → tables_in library (line ∷ lines) ≡ tables_by library kind (other_words line.words) (rows_in lines) ++ tables_in library lines
 unfolding tables_in
@@ -594,326 +526,102 @@ closed_tables library tables (Some reading) line lines e =
 pub closed_other : (library : Option (List TheGate)) (tables : List Table) (reading : Option Reading) (kind : Keyword) (line : Entry) (lines : List Entry) → kind_of line ≡ kind → is_row_kind kind ≡ false → tables_by library kind (other_words line.words) (rows_in lines) ≡ []
     → tables_with tables reading ++ tables_in library lines ≡ tables ++ tables_after library reading (line ∷ lines)
 closed_other library tables reading kind line lines e other none =
-    ap (λ rest. tables_with tables reading ++ rest) (sym (tables_other library kind line lines e none)) ∙ closed_tables library tables reading line lines (row_is line kind e ∙ other)
+    ap (λ rest. tables_with tables reading ++ rest) (sym (tables_other library kind line lines e none)) ∙ closed_tables library tables reading line lines (ap is_row_kind e ∙ other)
 
 pub closed_table : (library : Option (List TheGate)) (tables : List Table) (reading : Option Reading) (line : Entry) (lines : List Entry) → kind_of line ≡ Names → tables_with tables reading ++ with_rows (read_with (other_words line.words) []) (rows_in lines) ∷ tables_in library lines ≡ tables ++ tables_after library reading (line ∷ lines)
 closed_table library tables reading line lines e =
     ap (λ table. tables_with tables reading ++ table ∷ tables_in library lines) (with_rows_read (other_words line.words) [] (rows_in lines))
     ∙ ap (λ rest. tables_with tables reading ++ rest) (sym (tables_more library Names line lines e))
-    ∙ closed_tables library tables reading line lines (row_is line Names e)
+    ∙ closed_tables library tables reading line lines (ap is_row_kind e)
 
 pub closed_gate : (library : Option (List TheGate)) (tables : List Table) (reading : Option Reading) (line : Entry) (lines : List Entry) → kind_of line ≡ Gate → (tables_with tables reading ++ gate_tables library (other_words line.words)) ++ tables_in library lines ≡ tables ++ tables_after library reading (line ∷ lines)
 closed_gate library tables reading line lines e =
     append_assoc (tables_with tables reading) (gate_tables library (other_words line.words)) (tables_in library lines)
     ∙ ap (λ rest. tables_with tables reading ++ rest) (sym (tables_more library Gate line lines e))
-    ∙ closed_tables library tables reading line lines (row_is line Gate e)
+    ∙ closed_tables library tables reading line lines (ap is_row_kind e)
 
 pub row_tables : (library : Option (List TheGate)) (reading : Option Reading) (line : Entry) (lines : List Entry) → kind_of line ≡ Row → tables_after library (row_behind reading (joined line.words)) lines ≡ tables_after library reading (line ∷ lines)
 unfolding with_rows
 row_tables library None line lines e = sym (tables_other library Row line lines e refl)
 row_tables library (Some reading) line lines e =
-    rw (one_row_in line lines (row_is line Row e), tables_other library Row line lines e refl) refl
+    rw (one_row_in line lines (ap is_row_kind e), tables_other library Row line lines e refl) refl
+
+tables_next : (library : Option (List TheGate)) (kind : Keyword) (line : Entry) (lines : List Entry) (draft : Draft) → kind_of line ≡ kind → begins_part kind ≡ false
+    → last_with library kind draft (other_words line.words) ++ tables_after library (reading_with kind draft (other_words line.words) line.words) lines ≡ draft.tables ++ tables_after library draft.reading (line ∷ lines)
+tables_next library Model line lines draft e unlike = closed_other library draft.tables draft.reading Model line lines e refl refl
+tables_next library Inputs line lines draft e unlike = closed_other library draft.tables draft.reading Inputs line lines e refl refl
+tables_next library Outputs line lines draft e unlike = closed_other library draft.tables draft.reading Outputs line lines e refl refl
+tables_next library Clock line lines draft e unlike = closed_other library draft.tables draft.reading Clock line lines e refl refl
+tables_next library Names line lines draft e unlike = closed_table library draft.tables draft.reading line lines e
+tables_next library Latch line lines draft e unlike = closed_other library draft.tables draft.reading Latch line lines e refl refl
+tables_next library Gate line lines draft e unlike = closed_gate library draft.tables draft.reading line lines e
+tables_next library Subckt line lines draft e unlike = closed_other library draft.tables draft.reading Subckt line lines e refl refl
+tables_next library StartKiss line lines draft e unlike = closed_other library draft.tables draft.reading StartKiss line lines e refl refl
+tables_next library DontCare line lines draft e unlike = absurd (cc)
+tables_next library End line lines draft e unlike = closed_other library draft.tables draft.reading End line lines e refl refl
+tables_next library Skipped line lines draft e unlike = closed_other library draft.tables draft.reading Skipped line lines e refl refl
+tables_next library Row line lines draft e unlike = ap (λ rest. draft.tables ++ rest) (row_tables library draft.reading line lines e)
+tables_next library Other line lines draft e unlike = closed_other library draft.tables draft.reading Other line lines e refl refl
 
 -- one line more in the model
-pub own_step : (library : Option (List TheGate)) (kind : Keyword) (line : Entry) (lines own : List Entry) (part : List Table) (back : List Entry) (draft : Draft) → kind_of line ≡ kind → Tells back draft → draft_fault library kind draft line.number (other_words line.words) line.words ≡ None → draft.has_part ≡ false → begins_part kind ≡ false
-    → kept_from library (with_line library kind draft line.number (other_words line.words) line.words) lines own part ≡ kept_from library draft (line ∷ lines) (line ∷ own) part
-unfolding closed
-own_step library Model line lines own part back draft e t f h unlike =
+own_step : (library : Option (List TheGate)) (line : Entry) (lines own : List Entry) (part : List Table) (back : List Entry) (draft : Draft) → Tells back draft → fault_at library draft line ≡ None → draft.has_part ≡ false → begins_part (kind_of line) ≡ false
+    → kept_after library (next_at library draft line) lines own (last_tables library (next_at library draft line) own) part ≡ kept_after library draft (line ∷ lines) (line ∷ own) (last_tables library draft (line ∷ own)) part
+unfolding has_kiss has_instances lists_inputs lists_outputs
+own_step library line lines own part back draft t f h unlike =
+    let right = right_line library (kind_of line) draft line.number (other_words line.words) line.words f in
+    let timing = timing_next line own draft.latches draft.timing right.latch in
     kept_same _ _
-    (no_kiss draft.has_kiss Model line lines e refl)
-    (no_instance draft.has_instances Model line own e refl)
-    (model_named line lines draft.begun draft.name e (begins draft.begun line.number (other_words line.words) f))
-    (no_inputs_listed draft.lists_inputs Model line own e refl)
-    (put_none listed_inputs draft.inputs Model line own e refl)
-    (no_outputs_listed draft.lists_outputs Model line own e refl)
-    (put_none listed_outputs draft.outputs Model line own e refl)
-    (put_none listed_ports draft.ports Model line own e refl)
-    (put_none listed_clocks draft.clocks Model line own e refl)
-    (put_none (driven_by library) draft.drives Model line own e refl)
-    (put_none (read_by library) draft.reads Model line own e refl)
-    (inner_other library draft.lists_inputs draft.inner Model line own e refl)
-    (ap (timing_after draft.latches draft.timing) (latches_other Model line own e refl))
-    (ap (λ ls. mixed_after draft.mixed (timing_after draft.latches draft.timing ls) ls) (latches_other Model line own e refl))
-    (put_none latches_by draft.latches Model line own e refl)
-    (closed_other library draft.tables draft.reading Model line own e refl refl)
+    (swap (begins_kiss (kind_of line)) draft.has_kiss (has_kiss lines))
+    (swap (is_instance_kind (kind_of line)) draft.has_instances (has_instances own))
+    (name_next library (kind_of line) line lines back draft refl t f)
+    (listed (is_inputs_kind (kind_of line)) draft.has_part draft.lists_inputs (lists_inputs own) h)
+    (put_more listed_inputs draft.has_part draft.inputs line own h)
+    (listed (is_outputs_kind (kind_of line)) draft.has_part draft.lists_outputs (lists_outputs own) h)
+    (put_more listed_outputs draft.has_part draft.outputs line own h)
+    (put_more listed_ports draft.has_part draft.ports line own h)
+    (put_more listed_clocks draft.has_part draft.clocks line own h)
+    (put_more (driven_by library) draft.has_part draft.drives line own h)
+    (put_more (read_by library) draft.has_part draft.reads line own h)
+    (inner_next library draft.has_part draft.lists_inputs draft.inner line own h)
+    timing
+    (mixed_next line own draft.latches draft.timing draft.mixed _ timing)
+    (latches_next line own draft.latches)
+    (tables_next library (kind_of line) line own draft refl unlike)
     refl
-own_step library Inputs line lines own part back draft e t f h unlike =
-    kept_same _ _
-    (no_kiss draft.has_kiss Inputs line lines e refl)
-    (no_instance draft.has_instances Inputs line own e refl)
-    (name_other line lines (ap (λ k. named_by k (other_words line.words)) e) draft.begun draft.name t.unnamed)
-    (now_listed draft.has_part draft.lists_inputs (lists_inputs own) h ∙ ap (λ b. draft.lists_inputs || b) (sym (inputs_listed_more line own Inputs e)))
-    (put_grown listed_inputs draft.has_part draft.inputs Inputs line own e h)
-    (no_outputs_listed draft.lists_outputs Inputs line own e refl)
-    (put_none listed_outputs draft.outputs Inputs line own e refl)
-    (put_grown listed_ports draft.has_part draft.ports Inputs line own e h)
-    (put_none listed_clocks draft.clocks Inputs line own e refl)
-    (put_none (driven_by library) draft.drives Inputs line own e refl)
-    (put_none (read_by library) draft.reads Inputs line own e refl)
-    (inner_ended library draft.has_part draft.lists_inputs draft.inner line own e h)
-    (ap (timing_after draft.latches draft.timing) (latches_other Inputs line own e refl))
-    (ap (λ ls. mixed_after draft.mixed (timing_after draft.latches draft.timing ls) ls) (latches_other Inputs line own e refl))
-    (put_none latches_by draft.latches Inputs line own e refl)
-    (closed_other library draft.tables draft.reading Inputs line own e refl refl)
-    refl
-own_step library Outputs line lines own part back draft e t f h unlike =
-    kept_same _ _
-    (no_kiss draft.has_kiss Outputs line lines e refl)
-    (no_instance draft.has_instances Outputs line own e refl)
-    (name_other line lines (ap (λ k. named_by k (other_words line.words)) e) draft.begun draft.name t.unnamed)
-    (no_inputs_listed draft.lists_inputs Outputs line own e refl)
-    (put_none listed_inputs draft.inputs Outputs line own e refl)
-    (now_listed draft.has_part draft.lists_outputs (lists_outputs own) h ∙ ap (λ b. draft.lists_outputs || b) (sym (outputs_listed_more line own Outputs e)))
-    (put_grown listed_outputs draft.has_part draft.outputs Outputs line own e h)
-    (put_grown listed_ports draft.has_part draft.ports Outputs line own e h)
-    (put_none listed_clocks draft.clocks Outputs line own e refl)
-    (put_none (driven_by library) draft.drives Outputs line own e refl)
-    (put_grown (read_by library) draft.has_part draft.reads Outputs line own e h)
-    (inner_other library draft.lists_inputs draft.inner Outputs line own e refl)
-    (ap (timing_after draft.latches draft.timing) (latches_other Outputs line own e refl))
-    (ap (λ ls. mixed_after draft.mixed (timing_after draft.latches draft.timing ls) ls) (latches_other Outputs line own e refl))
-    (put_none latches_by draft.latches Outputs line own e refl)
-    (closed_other library draft.tables draft.reading Outputs line own e refl refl)
-    refl
-own_step library Clock line lines own part back draft e t f h unlike =
-    kept_same _ _
-    (no_kiss draft.has_kiss Clock line lines e refl)
-    (no_instance draft.has_instances Clock line own e refl)
-    (name_other line lines (ap (λ k. named_by k (other_words line.words)) e) draft.begun draft.name t.unnamed)
-    (no_inputs_listed draft.lists_inputs Clock line own e refl)
-    (put_none listed_inputs draft.inputs Clock line own e refl)
-    (no_outputs_listed draft.lists_outputs Clock line own e refl)
-    (put_none listed_outputs draft.outputs Clock line own e refl)
-    (put_none listed_ports draft.ports Clock line own e refl)
-    (put_more listed_clocks draft.clocks Clock line own e)
-    (put_none (driven_by library) draft.drives Clock line own e refl)
-    (put_none (read_by library) draft.reads Clock line own e refl)
-    (inner_other library draft.lists_inputs draft.inner Clock line own e refl)
-    (ap (timing_after draft.latches draft.timing) (latches_other Clock line own e refl))
-    (ap (λ ls. mixed_after draft.mixed (timing_after draft.latches draft.timing ls) ls) (latches_other Clock line own e refl))
-    (put_none latches_by draft.latches Clock line own e refl)
-    (closed_other library draft.tables draft.reading Clock line own e refl refl)
-    refl
-own_step library Names line lines own part back draft e t f h unlike =
-    kept_same _ _
-    (no_kiss draft.has_kiss Names line lines e refl)
-    (no_instance draft.has_instances Names line own e refl)
-    (name_other line lines (ap (λ k. named_by k (other_words line.words)) e) draft.begun draft.name t.unnamed)
-    (no_inputs_listed draft.lists_inputs Names line own e refl)
-    (put_none listed_inputs draft.inputs Names line own e refl)
-    (no_outputs_listed draft.lists_outputs Names line own e refl)
-    (put_none listed_outputs draft.outputs Names line own e refl)
-    (put_none listed_ports draft.ports Names line own e refl)
-    (put_none listed_clocks draft.clocks Names line own e refl)
-    (put_grown (driven_by library) draft.has_part draft.drives Names line own e h)
-    (put_grown (read_by library) draft.has_part draft.reads Names line own e h)
-    (inner_more library draft.has_part draft.lists_inputs draft.inner (input_words (other_words line.words)) Names line own e h refl)
-    (ap (timing_after draft.latches draft.timing) (latches_other Names line own e refl))
-    (ap (λ ls. mixed_after draft.mixed (timing_after draft.latches draft.timing ls) ls) (latches_other Names line own e refl))
-    (put_none latches_by draft.latches Names line own e refl)
-    (closed_table library draft.tables draft.reading line own e)
-    refl
-own_step library Latch line lines own part back draft e t f h unlike =
-    kept_same _ _
-    (no_kiss draft.has_kiss Latch line lines e refl)
-    (no_instance draft.has_instances Latch line own e refl)
-    (name_other line lines (ap (λ k. named_by k (other_words line.words)) e) draft.begun draft.name t.unnamed)
-    (no_inputs_listed draft.lists_inputs Latch line own e refl)
-    (put_none listed_inputs draft.inputs Latch line own e refl)
-    (no_outputs_listed draft.lists_outputs Latch line own e refl)
-    (put_none listed_outputs draft.outputs Latch line own e refl)
-    (put_none listed_ports draft.ports Latch line own e refl)
-    (put_none listed_clocks draft.clocks Latch line own e refl)
-    (put_more (driven_by library) draft.drives Latch line own e)
-    (put_more (read_by library) draft.reads Latch line own e)
-    (inner_more library false draft.lists_inputs draft.inner (latch_input (other_words line.words)) Latch line own e refl refl)
-    (timing_latch draft.latches draft.timing (other_words line.words) line (latch_lines own) refl (right_latch (place_of draft) draft.nodes line.number (other_words line.words) f) ∙ ap (timing_after draft.latches draft.timing) (latches_one line own e))
-    (ap (λ timing. mixed_after (mixed_with draft.mixed (timing_with draft.latches draft.timing (timing_at line)) line.number (timing_at line)) timing (latch_lines own)) (timing_latch draft.latches draft.timing (other_words line.words) line (latch_lines own) refl (right_latch (place_of draft) draft.nodes line.number (other_words line.words) f))
-    ∙ ap (λ timing. mixed_after (mixed_with draft.mixed timing line.number (timing_at line)) (timing_after draft.latches draft.timing (line ∷ latch_lines own)) (latch_lines own)) (shared_timing draft.latches draft.timing line (latch_lines own))
-    ∙ mixed_latch draft.mixed (timing_after draft.latches draft.timing (line ∷ latch_lines own)) line (latch_lines own)
-    ∙ ap (λ ls. mixed_after draft.mixed (timing_after draft.latches draft.timing ls) ls) (latches_one line own e))
-    (put_more latches_by draft.latches Latch line own e)
-    (closed_other library draft.tables draft.reading Latch line own e refl refl)
-    refl
-own_step library Gate line lines own part back draft e t f h unlike =
-    kept_same _ _
-    (no_kiss draft.has_kiss Gate line lines e refl)
-    (no_instance draft.has_instances Gate line own e refl)
-    (name_other line lines (ap (λ k. named_by k (other_words line.words)) e) draft.begun draft.name t.unnamed)
-    (no_inputs_listed draft.lists_inputs Gate line own e refl)
-    (put_none listed_inputs draft.inputs Gate line own e refl)
-    (no_outputs_listed draft.lists_outputs Gate line own e refl)
-    (put_none listed_outputs draft.outputs Gate line own e refl)
-    (put_none listed_ports draft.ports Gate line own e refl)
-    (put_none listed_clocks draft.clocks Gate line own e refl)
-    (put_more (driven_by library) draft.drives Gate line own e)
-    (put_more (read_by library) draft.reads Gate line own e)
-    (inner_more library false draft.lists_inputs draft.inner (gate_inputs library (other_words line.words)) Gate line own e refl refl)
-    (ap (timing_after draft.latches draft.timing) (latches_other Gate line own e refl))
-    (ap (λ ls. mixed_after draft.mixed (timing_after draft.latches draft.timing ls) ls) (latches_other Gate line own e refl))
-    (put_none latches_by draft.latches Gate line own e refl)
-    (closed_gate library draft.tables draft.reading line own e)
-    refl
-own_step library Subckt line lines own part back draft e t f h unlike =
-    kept_same _ _
-    (no_kiss draft.has_kiss Subckt line lines e refl)
-    (sym (ap (λ b. draft.has_instances || b) (instances_more line own Subckt e) ∙ either draft.has_instances true refl))
-    (name_other line lines (ap (λ k. named_by k (other_words line.words)) e) draft.begun draft.name t.unnamed)
-    (no_inputs_listed draft.lists_inputs Subckt line own e refl)
-    (put_none listed_inputs draft.inputs Subckt line own e refl)
-    (no_outputs_listed draft.lists_outputs Subckt line own e refl)
-    (put_none listed_outputs draft.outputs Subckt line own e refl)
-    (put_none listed_ports draft.ports Subckt line own e refl)
-    (put_none listed_clocks draft.clocks Subckt line own e refl)
-    (put_none (driven_by library) draft.drives Subckt line own e refl)
-    (put_none (read_by library) draft.reads Subckt line own e refl)
-    (inner_other library draft.lists_inputs draft.inner Subckt line own e refl)
-    (ap (timing_after draft.latches draft.timing) (latches_other Subckt line own e refl))
-    (ap (λ ls. mixed_after draft.mixed (timing_after draft.latches draft.timing ls) ls) (latches_other Subckt line own e refl))
-    (put_none latches_by draft.latches Subckt line own e refl)
-    (closed_other library draft.tables draft.reading Subckt line own e refl refl)
-    refl
-own_step library StartKiss line lines own part back draft e t f h unlike =
-    kept_same _ _
-    (sym (ap (λ b. draft.has_kiss || b) (kiss_more line lines StartKiss e) ∙ either draft.has_kiss true refl))
-    (no_instance draft.has_instances StartKiss line own e refl)
-    (name_other line lines (ap (λ k. named_by k (other_words line.words)) e) draft.begun draft.name t.unnamed)
-    (no_inputs_listed draft.lists_inputs StartKiss line own e refl)
-    (put_none listed_inputs draft.inputs StartKiss line own e refl)
-    (no_outputs_listed draft.lists_outputs StartKiss line own e refl)
-    (put_none listed_outputs draft.outputs StartKiss line own e refl)
-    (put_none listed_ports draft.ports StartKiss line own e refl)
-    (put_none listed_clocks draft.clocks StartKiss line own e refl)
-    (put_none (driven_by library) draft.drives StartKiss line own e refl)
-    (put_none (read_by library) draft.reads StartKiss line own e refl)
-    (inner_other library draft.lists_inputs draft.inner StartKiss line own e refl)
-    (ap (timing_after draft.latches draft.timing) (latches_other StartKiss line own e refl))
-    (ap (λ ls. mixed_after draft.mixed (timing_after draft.latches draft.timing ls) ls) (latches_other StartKiss line own e refl))
-    (put_none latches_by draft.latches StartKiss line own e refl)
-    (closed_other library draft.tables draft.reading StartKiss line own e refl refl)
-    refl
-own_step library DontCare line lines own part back draft e t f h unlike = absurd (cc)
-own_step library End line lines own part back draft e t f h unlike =
-    kept_same _ _
-    (no_kiss draft.has_kiss End line lines e refl)
-    (no_instance draft.has_instances End line own e refl)
-    (name_other line lines (ap (λ k. named_by k (other_words line.words)) e) draft.begun draft.name t.unnamed)
-    (no_inputs_listed draft.lists_inputs End line own e refl)
-    (put_none listed_inputs draft.inputs End line own e refl)
-    (no_outputs_listed draft.lists_outputs End line own e refl)
-    (put_none listed_outputs draft.outputs End line own e refl)
-    (put_none listed_ports draft.ports End line own e refl)
-    (put_none listed_clocks draft.clocks End line own e refl)
-    (put_none (driven_by library) draft.drives End line own e refl)
-    (put_none (read_by library) draft.reads End line own e refl)
-    (inner_other library draft.lists_inputs draft.inner End line own e refl)
-    (ap (timing_after draft.latches draft.timing) (latches_other End line own e refl))
-    (ap (λ ls. mixed_after draft.mixed (timing_after draft.latches draft.timing ls) ls) (latches_other End line own e refl))
-    (put_none latches_by draft.latches End line own e refl)
-    (closed_other library draft.tables draft.reading End line own e refl refl)
-    refl
-own_step library Skipped line lines own part back draft e t f h unlike =
-    kept_same _ _
-    (no_kiss draft.has_kiss Skipped line lines e refl)
-    (no_instance draft.has_instances Skipped line own e refl)
-    (name_other line lines (ap (λ k. named_by k (other_words line.words)) e) draft.begun draft.name t.unnamed)
-    (no_inputs_listed draft.lists_inputs Skipped line own e refl)
-    (put_none listed_inputs draft.inputs Skipped line own e refl)
-    (no_outputs_listed draft.lists_outputs Skipped line own e refl)
-    (put_none listed_outputs draft.outputs Skipped line own e refl)
-    (put_none listed_ports draft.ports Skipped line own e refl)
-    (put_none listed_clocks draft.clocks Skipped line own e refl)
-    (put_none (driven_by library) draft.drives Skipped line own e refl)
-    (put_none (read_by library) draft.reads Skipped line own e refl)
-    (inner_other library draft.lists_inputs draft.inner Skipped line own e refl)
-    (ap (timing_after draft.latches draft.timing) (latches_other Skipped line own e refl))
-    (ap (λ ls. mixed_after draft.mixed (timing_after draft.latches draft.timing ls) ls) (latches_other Skipped line own e refl))
-    (put_none latches_by draft.latches Skipped line own e refl)
-    (closed_other library draft.tables draft.reading Skipped line own e refl refl)
-    refl
-own_step library Row line lines own part back draft e t f h unlike =
-    kept_same _ _
-    (no_kiss draft.has_kiss Row line lines e refl)
-    (no_instance draft.has_instances Row line own e refl)
-    (name_other line lines (ap (λ k. named_by k (other_words line.words)) e) draft.begun draft.name t.unnamed)
-    (no_inputs_listed draft.lists_inputs Row line own e refl)
-    (put_none listed_inputs draft.inputs Row line own e refl)
-    (no_outputs_listed draft.lists_outputs Row line own e refl)
-    (put_none listed_outputs draft.outputs Row line own e refl)
-    (put_none listed_ports draft.ports Row line own e refl)
-    (put_none listed_clocks draft.clocks Row line own e refl)
-    (put_none (driven_by library) draft.drives Row line own e refl)
-    (put_none (read_by library) draft.reads Row line own e refl)
-    (inner_other library draft.lists_inputs draft.inner Row line own e refl)
-    (ap (timing_after draft.latches draft.timing) (latches_other Row line own e refl))
-    (ap (λ ls. mixed_after draft.mixed (timing_after draft.latches draft.timing ls) ls) (latches_other Row line own e refl))
-    (put_none latches_by draft.latches Row line own e refl)
-    (ap (λ rest. draft.tables ++ rest) (row_tables library draft.reading line own e))
-    refl
-own_step library Other line lines own part back draft e t f h unlike = absurd (cc)
 
 -- one line more in the don't-care part
-pub part_step : (library : Option (List TheGate)) (kind : Keyword) (line : Entry) (lines back : List Entry) (draft : Draft) → kind_of line ≡ kind → Tells back draft → draft_fault library kind draft line.number (other_words line.words) line.words ≡ None → draft.has_part ≡ true
-    → kept_part library (with_line library kind draft line.number (other_words line.words) line.words) lines ≡ kept_part library draft (line ∷ lines)
-unfolding closed
-part_step library Model line lines back draft e t f h = absurd (unbegun back draft.has_part h t.part (begins draft.begun line.number (other_words line.words) f) t.begun)
-part_step library Inputs line lines back draft e t f h =
+still_put : {A : Type 0} (had : Bool) (items more : List A) → had ≡ true → with_more had items more ++ [] ≡ items ++ []
+still_put had items more h = ap (λ all. all ++ []) (more_kept had items more h)
+
+part_step : (library : Option (List TheGate)) (line : Entry) (lines back : List Entry) (draft : Draft) → Tells back draft → fault_at library draft line ≡ None → draft.has_part ≡ true
+    → kept_by library true (next_at library draft line) lines ≡ kept_by library true draft (line ∷ lines)
+unfolding has_kiss
+part_step library line lines back draft t f h =
+    let right = right_line library (kind_of line) draft line.number (other_words line.words) line.words f in
+    let words = other_words line.words in
+    let inputs = still_listed (is_inputs_kind (kind_of line)) draft.has_part draft.lists_inputs h in
+    let inner = more_kept (draft.has_part || draft.lists_inputs) draft.inner (read_within library (kind_of line) words) (ap (λ b. b || draft.lists_inputs) h) in
+    let latches : Bool → List TheLatch = λ b. if b then draft.latches ++ latch_of words else draft.latches in
+    let timing : Bool → Option Timing = λ b. if b then timing_with draft.latches draft.timing (timing_of words) else draft.timing in
+    let mixed : Bool → Option ℕ = λ b. if b then mixed_with draft.mixed (timing_with draft.latches draft.timing (timing_of words)) line.number (timing_of words) else draft.mixed in
     kept_same _ _
-    (no_kiss draft.has_kiss Inputs line lines e refl)
-    refl
-    (name_other line lines (ap (λ k. named_by k (other_words line.words)) e) draft.begun draft.name t.unnamed)
-    (still_listed draft.has_part draft.lists_inputs h)
-    (not_grown draft.has_part draft.inputs (other_words line.words) h)
-    refl refl
-    (not_grown draft.has_part draft.ports (other_words line.words) h)
-    refl refl refl refl refl refl refl refl
-    (closed_other library draft.tables draft.reading Inputs line lines e refl refl)
-part_step library Outputs line lines back draft e t f h =
-    kept_same _ _
-    (no_kiss draft.has_kiss Outputs line lines e refl)
-    refl
-    (name_other line lines (ap (λ k. named_by k (other_words line.words)) e) draft.begun draft.name t.unnamed)
-    refl refl
-    (still_listed draft.has_part draft.lists_outputs h)
-    (not_grown draft.has_part draft.outputs (other_words line.words) h)
-    (not_grown draft.has_part draft.ports (other_words line.words) h)
-    refl refl
-    (not_grown draft.has_part draft.reads (other_words line.words) h)
-    refl refl refl refl refl
-    (closed_other library draft.tables draft.reading Outputs line lines e refl refl)
-part_step library Clock line lines back draft e t f h = absurd (own_clock draft.ended draft.has_part line.number (other_words line.words) h f)
-part_step library Names line lines back draft e t f h =
-    kept_same _ _
-    (no_kiss draft.has_kiss Names line lines e refl)
-    refl
-    (name_other line lines (ap (λ k. named_by k (other_words line.words)) e) draft.begun draft.name t.unnamed)
-    refl refl refl refl refl refl
-    (not_grown draft.has_part draft.drives (last_word (other_words line.words) ∷ []) h)
-    (not_grown draft.has_part draft.reads (input_words (other_words line.words)) h)
-    (not_grown (draft.has_part || draft.lists_inputs) draft.inner (input_words (other_words line.words)) (ap (λ b. b || draft.lists_inputs) h))
-    refl refl refl refl
-    (closed_table library draft.tables draft.reading line lines e)
-part_step library Latch line lines back draft e t f h = absurd (own_latch draft.ended draft.has_part draft.nodes line.number (other_words line.words) h f)
-part_step library Gate line lines back draft e t f h = absurd (own_gate library draft.ended draft.has_part draft.nodes line.number (other_words line.words) h f)
-part_step library Subckt line lines back draft e t f h = absurd (own_subckt draft.ended draft.has_part line.number (other_words line.words) h f)
-part_step library StartKiss line lines back draft e t f h = absurd (own_start draft.ended draft.has_part draft.has_kiss line.number h f)
-part_step library DontCare line lines back draft e t f h = absurd (own_place draft.ended draft.has_part line.number h f)
-part_step library End line lines back draft e t f h =
-    kept_same _ _
-    (no_kiss draft.has_kiss End line lines e refl)
-    refl
-    (name_other line lines (ap (λ k. named_by k (other_words line.words)) e) draft.begun draft.name t.unnamed)
-    refl refl refl refl refl refl refl refl refl refl refl refl refl
-    (closed_other library draft.tables draft.reading End line lines e refl refl)
-part_step library Skipped line lines back draft e t f h = absurd (own_place draft.ended draft.has_part line.number h f)
-part_step library Row line lines back draft e t f h =
-    kept_same _ _
-    (no_kiss draft.has_kiss Row line lines e refl)
-    refl
-    (name_other line lines (ap (λ k. named_by k (other_words line.words)) e) draft.begun draft.name t.unnamed)
-    refl refl refl refl refl refl refl refl refl refl refl refl refl
-    (ap (λ rest. draft.tables ++ rest) (row_tables library draft.reading line lines e))
-part_step library Other line lines back draft e t f h = absurd (cc)
+    (swap (begins_kiss (kind_of line)) draft.has_kiss (has_kiss lines))
+    (ap (λ b. (b || draft.has_instances) || has_instances []) (right.instances h))
+    (name_next library (kind_of line) line lines back draft refl t f)
+    (ap (λ b. b || lists_inputs []) inputs)
+    (still_put draft.has_part draft.inputs (listed_inputs (kind_of line) words) h)
+    (ap (λ b. b || lists_outputs []) (still_listed (is_outputs_kind (kind_of line)) draft.has_part draft.lists_outputs h))
+    (still_put draft.has_part draft.outputs (listed_outputs (kind_of line) words) h)
+    (still_put draft.has_part draft.ports (listed_ports (kind_of line) words) h)
+    (still_put draft.has_part draft.clocks (listed_clocks (kind_of line) words) h)
+    (still_put draft.has_part draft.drives (driven_by library (kind_of line) words) h)
+    (still_put draft.has_part draft.reads (read_by library (kind_of line) words) h)
+    (ap (λ b. inner_after library b (next_at library draft line).inner []) inputs ∙ ap (λ names. inner_after library draft.lists_inputs names []) inner)
+    (ap (λ b. timing_after (latches b) (timing b) []) (right.latches h))
+    (ap (λ b. mixed_after (mixed b) (timing_after (latches b) (timing b) []) []) (right.latches h))
+    (ap (λ b. latches b ++ []) (right.latches h))
+    (ap (λ (b : Bool). if b then tables_with draft.tables draft.reading else draft.model_tables) (right.part h))
+    (tables_next library (kind_of line) line lines draft refl (right.part h))
 
 -- the lines of the model and of the part, with one more
 pub own_more : (line : Entry) (lines : List Entry) → begins_part (kind_of line) ≡ false → model_lines (line ∷ lines) ≡ line ∷ model_lines lines
@@ -961,78 +669,51 @@ tables_end library tables None = sym (append-nil tables)
 tables_end library tables (Some reading) = refl
 
 -- the model ends
-pub own_end : (library : Option (List TheGate)) (line : Entry) (lines back : List Entry) (draft : Draft) → kind_of line ≡ DontCare → Tells back draft → kept_part library (with_line library DontCare draft line.number (other_words line.words) line.words) lines ≡ kept_from library draft (line ∷ lines) [] (tables_in library (line ∷ lines))
-unfolding closed lists_inputs lists_outputs has_instances
+own_end : (library : Option (List TheGate)) (line : Entry) (lines back : List Entry) (draft : Draft) → kind_of line ≡ DontCare → Tells back draft
+    → kept_by library true (with_line library DontCare draft line.number (other_words line.words) line.words) lines ≡ kept_after library draft (line ∷ lines) [] (last_tables library draft []) (tables_in library (line ∷ lines))
+unfolding has_kiss
 own_end library line lines back draft e t =
     kept_same _ _
-    (no_kiss draft.has_kiss DontCare line lines e refl)
-    (or_nothing draft.has_instances)
+    (ap (λ k. draft.has_kiss || (begins_kiss k || has_kiss lines)) (sym e))
+    refl
     (name_other line lines (ap (λ k. named_by k (other_words line.words)) e) draft.begun draft.name t.unnamed)
-    (or_nothing draft.lists_inputs)
-    (sym (append-nil draft.inputs))
-    (or_nothing draft.lists_outputs)
-    (sym (append-nil draft.outputs))
-    (sym (append-nil draft.ports))
-    (sym (append-nil draft.clocks))
-    (sym (append-nil draft.drives))
-    (sym (append-nil draft.reads))
-    (inner_ends library draft.lists_inputs draft.inner)
-    (timing_ends draft.latches draft.timing)
-    (mixed_ends draft.mixed (timing_after draft.latches draft.timing []))
-    (sym (append-nil draft.latches))
+    refl refl refl refl refl refl refl refl refl refl refl refl
     (tables_end library draft.tables draft.reading)
     (sym (tables_other library DontCare line lines e refl))
 
-pub part_begun : (library : Option (List TheGate)) (line : Entry) (lines back : List Entry) (draft : Draft) → kind_of line ≡ DontCare → Tells back draft → kept_part library (with_line library DontCare draft line.number (other_words line.words) line.words) lines ≡ kept_by library false draft (line ∷ lines)
+part_begun : (library : Option (List TheGate)) (line : Entry) (lines back : List Entry) (draft : Draft) → kind_of line ≡ DontCare → Tells back draft
+    → kept_by library true (with_line library DontCare draft line.number (other_words line.words) line.words) lines ≡ kept_by library false draft (line ∷ lines)
 part_begun library line lines back draft e t =
     own_end library line lines back draft e t
-    ∙ sym (ap (λ own. kept_from library draft (line ∷ lines) own (tables_in library (part_lines (line ∷ lines)))) (own_ends line lines (ap begins_part e))
-    ∙ ap (λ rest. kept_from library draft (line ∷ lines) [] (tables_in library rest)) (part_here line lines (ap begins_part e)))
+    ∙ sym (ap (λ own. kept_after library draft (line ∷ lines) own (last_tables library draft own) (tables_in library (part_lines (line ∷ lines)))) (own_ends line lines (ap begins_part e))
+    ∙ ap (λ rest. kept_after library draft (line ∷ lines) [] (last_tables library draft []) (tables_in library rest)) (part_here line lines (ap begins_part e)))
 
-pub own_kept : (library : Option (List TheGate)) (kind : Keyword) (line : Entry) (lines back : List Entry) (draft : Draft) → kind_of line ≡ kind → Tells back draft → draft_fault library kind draft line.number (other_words line.words) line.words ≡ None → draft.has_part ≡ false → begins_part kind ≡ false
-    → kept_by library false (with_line library kind draft line.number (other_words line.words) line.words) lines ≡ kept_by library false draft (line ∷ lines)
-own_kept library kind line lines back draft e t f h unlike =
-    own_step library kind line lines (model_lines lines) (tables_in library (part_lines lines)) back draft e t f h unlike
-    ∙ sym (ap (λ own. kept_from library draft (line ∷ lines) own (tables_in library (part_lines (line ∷ lines)))) (own_more line lines (ap begins_part e ∙ unlike))
-    ∙ ap (λ rest. kept_from library draft (line ∷ lines) (line ∷ model_lines lines) (tables_in library rest)) (part_later line lines (ap begins_part e ∙ unlike)))
-
--- the part goes on, and begins with its line alone
-pub same_part : (library : Option (List TheGate)) (kind : Keyword) (draft : Draft) (number : ℕ) (words whole : List (List ℕ)) → (with_line library kind draft number words whole).has_part ≡ (begins_part kind || draft.has_part)
-unfolding closed
-same_part library Model draft number words whole = refl
-same_part library Inputs draft number words whole = refl
-same_part library Outputs draft number words whole = refl
-same_part library Clock draft number words whole = refl
-same_part library Names draft number words whole = refl
-same_part library Latch draft number words whole = refl
-same_part library Gate draft number words whole = refl
-same_part library Subckt draft number words whole = refl
-same_part library StartKiss draft number words whole = refl
-same_part library DontCare draft number words whole = refl
-same_part library End draft number words whole = refl
-same_part library Skipped draft number words whole = refl
-same_part library Row draft number words whole = refl
-same_part library Other draft number words whole = refl
+own_kept : (library : Option (List TheGate)) (line : Entry) (lines back : List Entry) (draft : Draft) → Tells back draft → fault_at library draft line ≡ None → draft.has_part ≡ false → begins_part (kind_of line) ≡ false
+    → kept_by library false (next_at library draft line) lines ≡ kept_by library false draft (line ∷ lines)
+own_kept library line lines back draft t f h unlike =
+    own_step library line lines (model_lines lines) (tables_in library (part_lines lines)) back draft t f h unlike
+    ∙ sym (ap (λ own. kept_after library draft (line ∷ lines) own (last_tables library draft own) (tables_in library (part_lines (line ∷ lines)))) (own_more line lines unlike)
+    ∙ ap (λ rest. kept_after library draft (line ∷ lines) (line ∷ model_lines lines) (last_tables library draft (line ∷ model_lines lines)) (tables_in library rest)) (part_later line lines unlike))
 
 -- what is kept in the end is the same, seen from before a line and from after it
-pub kept_on : (library : Option (List TheGate)) (kind : Keyword) (line : Entry) (lines back : List Entry) (draft : Draft) → kind_of line ≡ kind → Tells back draft → draft_fault library kind draft line.number (other_words line.words) line.words ≡ None
-    → kept_by library (with_line library kind draft line.number (other_words line.words) line.words).has_part (with_line library kind draft line.number (other_words line.words) line.words) lines ≡ kept_by library draft.has_part draft (line ∷ lines)
-kept_on library kind line lines back draft e t f = by draft.has_part (begins_part kind) refl refl
+pub kept_on : (library : Option (List TheGate)) (line : Entry) (lines back : List Entry) (draft : Draft) → Tells back draft → fault_at library draft line ≡ None
+    → kept_by library (next_at library draft line).has_part (next_at library draft line) lines ≡ kept_by library draft.has_part draft (line ∷ lines)
+kept_on library line lines back draft t f = by draft.has_part (begins_part (kind_of line)) refl refl
   where
     next : Draft
-    next = with_line library kind draft line.number (other_words line.words) line.words
+    next = next_at library draft line
 
-    by : (had begin : Bool) → draft.has_part ≡ had → begins_part kind ≡ begin → kept_by library next.has_part next lines ≡ kept_by library draft.has_part draft (line ∷ lines)
+    by : (had begin : Bool) → draft.has_part ≡ had → begins_part (kind_of line) ≡ begin → kept_by library next.has_part next lines ≡ kept_by library draft.has_part draft (line ∷ lines)
     by true begin h unlike =
-        ap (λ b. kept_by library b next lines) (same_part library kind draft line.number (other_words line.words) line.words ∙ either (begins_part kind) draft.has_part h)
-        ∙ part_step library kind line lines back draft e t f h
+        ap (λ b. kept_by library b next lines) (either (begins_part (kind_of line)) draft.has_part h)
+        ∙ part_step library line lines back draft t f h
         ∙ sym (ap (λ b. kept_by library b draft (line ∷ lines)) h)
     by false true h is =
-        ap (λ b. kept_by library b next lines) (same_part library kind draft line.number (other_words line.words) line.words ∙ ap (λ b. b || draft.has_part) is)
-        ∙ begun kind e is
+        ap (λ b. kept_by library b next lines) (ap (λ b. b || draft.has_part) is)
+        ∙ begun (kind_of line) refl is
         ∙ sym (ap (λ b. kept_by library b draft (line ∷ lines)) h)
       where
-        begun : (k : Keyword) → kind_of line ≡ k → begins_part k ≡ true → kept_part library (with_line library k draft line.number (other_words line.words) line.words) lines ≡ kept_by library false draft (line ∷ lines)
+        begun : (k : Keyword) → kind_of line ≡ k → begins_part k ≡ true → kept_by library true (with_line library k draft line.number (other_words line.words) line.words) lines ≡ kept_by library false draft (line ∷ lines)
         begun DontCare e is = part_begun library line lines back draft e t
         begun Model e is = absurd (cc)
         begun Inputs e is = absurd (cc)
@@ -1048,20 +729,14 @@ kept_on library kind line lines back draft e t f = by draft.has_part (begins_par
         begun Row e is = absurd (cc)
         begun Other e is = absurd (cc)
     by false false h unlike =
-        ap (λ b. kept_by library b next lines) (same_part library kind draft line.number (other_words line.words) line.words ∙ ap (λ b. b || draft.has_part) unlike ∙ h)
-        ∙ own_kept library kind line lines back draft e t f h unlike
+        ap (λ b. kept_by library b next lines) (ap (λ b. b || draft.has_part) unlike ∙ h)
+        ∙ own_kept library line lines back draft t f h unlike
         ∙ sym (ap (λ b. kept_by library b draft (line ∷ lines)) h)
 
-pub finish_kept : (library : Option (List TheGate)) (kind : Keyword) (line : Entry) (lines back : List Entry) (draft : Draft) → kind_of line ≡ kind → Tells back draft → draft_fault library kind draft line.number (other_words line.words) line.words ≡ None → finished_by library (with_line library kind draft line.number (other_words line.words) line.words) lines ≡ finished_by library draft (line ∷ lines)
-finish_kept library kind line lines back draft e t f = ap read_kept (kept_on library kind line lines back draft e t f)
-
-pub kept_end : (library : Option (List TheGate)) (back : List Entry) (draft : Draft) → Tells back draft → (had : Bool) → draft.has_part ≡ had → kept_of draft ≡ kept_by library had draft []
-unfolding has_kiss has_instances lists_inputs lists_outputs model_lines part_lines tables_in
-kept_end library back draft t true h =
-    kept_same _ _ (or_nothing draft.has_kiss) refl (named_end draft.begun draft.name t.unnamed) refl refl refl refl refl refl refl refl refl refl refl refl
-    (ap (λ b. model_of b draft.model_tables (tables_with draft.tables draft.reading)) h)
-    (ap (λ b. part_of b (tables_with draft.tables draft.reading)) h ∙ tables_end library draft.tables draft.reading)
-kept_end library back draft t false h =
+-- after the last line
+ended : (library : Option (List TheGate)) (back : List Entry) (draft : Draft) → Tells back draft → (tables part : List Table) → (kept_of draft).tables ≡ tables → (kept_of draft).dont_care ≡ part → kept_of draft ≡ kept_after library draft [] [] tables part
+unfolding has_kiss has_instances lists_inputs lists_outputs
+ended library back draft t tables part of_model of_part =
     kept_same _ _
     (or_nothing draft.has_kiss)
     (or_nothing draft.has_instances)
@@ -1078,18 +753,23 @@ kept_end library back draft t false h =
     (timing_ends draft.latches draft.timing)
     (mixed_ends draft.mixed (timing_after draft.latches draft.timing []))
     (sym (append-nil draft.latches))
-    (ap (λ b. model_of b draft.model_tables (tables_with draft.tables draft.reading)) h ∙ tables_end library draft.tables draft.reading)
-    (ap (λ b. part_of b (tables_with draft.tables draft.reading)) h)
+    of_model
+    of_part
+
+pub kept_end : (library : Option (List TheGate)) (back : List Entry) (draft : Draft) → Tells back draft → (had : Bool) → draft.has_part ≡ had → kept_of draft ≡ kept_by library had draft []
+unfolding model_lines part_lines tables_in
+kept_end library back draft t had h =
+    let last = tables_with draft.tables draft.reading in
+    let own : (kept_of draft).tables ≡ model_of had draft.model_tables last = ap (λ b. model_of b draft.model_tables last) h in
+    let part : (kept_of draft).dont_care ≡ part_of had last = ap (λ b. part_of b last) h in
+    by had own part
+  where
+    by : (had : Bool) → (kept_of draft).tables ≡ model_of had draft.model_tables (tables_with draft.tables draft.reading) → (kept_of draft).dont_care ≡ part_of had (tables_with draft.tables draft.reading) → kept_of draft ≡ kept_by library had draft []
+    by true own part = ended library back draft t draft.model_tables (last_tables library draft []) own (part ∙ tables_end library draft.tables draft.reading)
+    by false own part = ended library back draft t (last_tables library draft []) [] (own ∙ tables_end library draft.tables draft.reading) part
 
 pub finish_end : (library : Option (List TheGate)) (back : List Entry) (draft : Draft) → Tells back draft → finished draft ≡ finished_by library draft []
 finish_end library back draft t = ap read_kept (kept_end library back draft t draft.has_part refl)
-
--- the kind and the fault of a line, beside those of the draft
-abbrev pub fault_at : Option (List TheGate) → Draft → Entry → Option BlifFault
-fault_at library draft line = draft_fault library (kind_of line) draft line.number (other_words line.words) line.words
-
-abbrev pub next_at : Option (List TheGate) → Draft → Entry → Draft
-next_at library draft line = with_line library (kind_of line) draft line.number (other_words line.words) line.words
 
 pub taken_entry : (library : Option (List TheGate)) (draft : Draft) (line : Entry) (fault : Option BlifFault) → fault_at library draft line ≡ fault → take_entry library draft line ≡ unless fault (next_at library draft line)
 unfolding take_entry take_as kind_of
@@ -1106,7 +786,7 @@ unfolding take_entries first_line_fault
 agree library [] back draft t = finish_end library back draft t
 agree library (line ∷ lines) back draft t =
     step (fault_at library draft line) refl
-    (λ f. agree library lines (line ∷ back) (next_at library draft line) (tells_kept library (kind_of line) line back draft refl t f))
+    (λ f. agree library lines (line ∷ back) (next_at library draft line) (tells_kept library line back draft t))
   where
     step : (fault : Option BlifFault) → fault_at library draft line ≡ fault
         → (fault_at library draft line ≡ None
@@ -1114,7 +794,7 @@ agree library (line ∷ lines) back draft t =
         → finish (take_entries library draft (line ∷ lines)) ≡ first_fault (first_line_fault library back (line ∷ lines)) (finished_by library draft (line ∷ lines))
     step None f rec =
         rw (taken_entry library draft line None f, fault_of_line library line back draft None f t)
-        (rec f ∙ ap (first_fault (first_line_fault library (line ∷ back) lines)) (finish_kept library (kind_of line) line lines back draft refl t f))
+        (rec f ∙ ap (first_fault (first_line_fault library (line ∷ back) lines)) (ap read_kept (kept_on library line lines back draft t f)))
     step (Some fault) f rec =
         rw (taken_entry library draft line (Some fault) f, fault_of_line library line back draft (Some fault) f t) refl
 
@@ -1139,49 +819,37 @@ pub or_right : (a b : Bool) → (a || b) ≡ false → b ≡ false
 or_right true b e = absurd (cc)
 or_right false b e = e
 
-pub inner_all : (library : Option (List TheGate)) (lines : List Entry) → lists_inputs lines ≡ false → inner_in library lines ≡ reads_within library lines
+inner_all : (library : Option (List TheGate)) (lines : List Entry) → lists_inputs lines ≡ false → inner_in library lines ≡ reads_within library lines
 unfolding inner_in lists_inputs reads_within
 inner_all library [] e = refl
 inner_all library (line ∷ lines) e =
-    by (kind_of line) (or_left (is_inputs_kind (kind_of line)) (lists_inputs lines) e) (inner_all library lines (or_right (is_inputs_kind (kind_of line)) (lists_inputs lines) e))
-  where
-    by : (k : Keyword) → is_inputs_kind k ≡ false → inner_in library lines ≡ reads_within library lines → inner_by library k (other_words line.words) (inner_in library lines) ≡ read_within library k (other_words line.words) ++ reads_within library lines
-    by Inputs unlike rest = absurd (cc)
-    by Model unlike rest = ap (λ names. read_within library Model (other_words line.words) ++ names) rest
-    by Outputs unlike rest = ap (λ names. read_within library Outputs (other_words line.words) ++ names) rest
-    by Clock unlike rest = ap (λ names. read_within library Clock (other_words line.words) ++ names) rest
-    by Names unlike rest = ap (λ names. read_within library Names (other_words line.words) ++ names) rest
-    by Latch unlike rest = ap (λ names. read_within library Latch (other_words line.words) ++ names) rest
-    by Gate unlike rest = ap (λ names. read_within library Gate (other_words line.words) ++ names) rest
-    by Subckt unlike rest = ap (λ names. read_within library Subckt (other_words line.words) ++ names) rest
-    by StartKiss unlike rest = ap (λ names. read_within library StartKiss (other_words line.words) ++ names) rest
-    by DontCare unlike rest = ap (λ names. read_within library DontCare (other_words line.words) ++ names) rest
-    by End unlike rest = ap (λ names. read_within library End (other_words line.words) ++ names) rest
-    by Skipped unlike rest = ap (λ names. read_within library Skipped (other_words line.words) ++ names) rest
-    by Row unlike rest = ap (λ names. read_within library Row (other_words line.words) ++ names) rest
-    by Other unlike rest = ap (λ names. read_within library Other (other_words line.words) ++ names) rest
+    let none : is_inputs_kind (kind_of line) ≡ false = or_left (is_inputs_kind (kind_of line)) (lists_inputs lines) e in
+    let more = read_within library (kind_of line) (other_words line.words) in
+    ap (λ (b : Bool). more ++ (if b then [] else inner_in library lines)) none
+    ∙ ap (λ rest. more ++ rest) (inner_all library lines (or_right (is_inputs_kind (kind_of line)) (lists_inputs lines) e))
 
-pub reads_all : (library : Option (List TheGate)) (lines : List Entry) → lists_outputs lines ≡ false → reads_in library lines ≡ reads_within library lines
+same_reads : (library : Option (List TheGate)) (kind : Keyword) (words : List (List ℕ)) → is_outputs_kind kind ≡ false → read_by library kind words ≡ read_within library kind words
+same_reads library Model words unlike = refl
+same_reads library Inputs words unlike = refl
+same_reads library Outputs words unlike = absurd (cc)
+same_reads library Clock words unlike = refl
+same_reads library Names words unlike = refl
+same_reads library Latch words unlike = refl
+same_reads library Gate words unlike = refl
+same_reads library Subckt words unlike = refl
+same_reads library StartKiss words unlike = refl
+same_reads library DontCare words unlike = refl
+same_reads library End words unlike = refl
+same_reads library Skipped words unlike = refl
+same_reads library Row words unlike = refl
+same_reads library Other words unlike = refl
+
+reads_all : (library : Option (List TheGate)) (lines : List Entry) → lists_outputs lines ≡ false → reads_in library lines ≡ reads_within library lines
 unfolding lists_outputs reads_in reads_within
 reads_all library [] e = refl
 reads_all library (line ∷ lines) e =
-    by (kind_of line) (or_left (is_outputs_kind (kind_of line)) (lists_outputs lines) e) (reads_all library lines (or_right (is_outputs_kind (kind_of line)) (lists_outputs lines) e))
-  where
-    by : (k : Keyword) → is_outputs_kind k ≡ false → reads_in library lines ≡ reads_within library lines → read_by library k (other_words line.words) ++ reads_in library lines ≡ read_within library k (other_words line.words) ++ reads_within library lines
-    by Outputs unlike rest = absurd (cc)
-    by Model unlike rest = ap (λ names. read_within library Model (other_words line.words) ++ names) rest
-    by Inputs unlike rest = ap (λ names. read_within library Inputs (other_words line.words) ++ names) rest
-    by Clock unlike rest = ap (λ names. read_within library Clock (other_words line.words) ++ names) rest
-    by Names unlike rest = ap (λ names. read_within library Names (other_words line.words) ++ names) rest
-    by Latch unlike rest = ap (λ names. read_within library Latch (other_words line.words) ++ names) rest
-    by Gate unlike rest = ap (λ names. read_within library Gate (other_words line.words) ++ names) rest
-    by Subckt unlike rest = ap (λ names. read_within library Subckt (other_words line.words) ++ names) rest
-    by StartKiss unlike rest = ap (λ names. read_within library StartKiss (other_words line.words) ++ names) rest
-    by DontCare unlike rest = ap (λ names. read_within library DontCare (other_words line.words) ++ names) rest
-    by End unlike rest = ap (λ names. read_within library End (other_words line.words) ++ names) rest
-    by Skipped unlike rest = ap (λ names. read_within library Skipped (other_words line.words) ++ names) rest
-    by Row unlike rest = ap (λ names. read_within library Row (other_words line.words) ++ names) rest
-    by Other unlike rest = ap (λ names. read_within library Other (other_words line.words) ++ names) rest
+    ap (λ more. more ++ reads_in library lines) (same_reads library (kind_of line) (other_words line.words) (or_left (is_outputs_kind (kind_of line)) (lists_outputs lines) e))
+    ∙ ap (λ rest. read_within library (kind_of line) (other_words line.words) ++ rest) (reads_all library lines (or_right (is_outputs_kind (kind_of line)) (lists_outputs lines) e))
 
 pub inputs_all : (library : Option (List TheGate)) (lines : List Entry) → listed_or (lists_inputs lines) (of_lines listed_inputs lines) (names_beside (drives_in library lines) (inner_in library lines)) ≡ inputs_in library lines
 unfolding inputs_in

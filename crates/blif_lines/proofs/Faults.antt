@@ -63,11 +63,6 @@ pub true_false : (b : Bool) → b ≡ true → b ≡ false → ⊥
 true_false true e f = cc
 true_false false e f = cc
 
-pub own_clock : (ended had : Bool) (number : ℕ) (words : List (List ℕ)) → had ≡ true → clock_fault (place_at ended had) number words ≡ None → ⊥
-unfolding clock_fault
-own_clock ended had number words h f =
-    true_false (is_in_model (place_at ended had)) (in_model (place_at ended had) number (long_fault words ∷ []) f) (not_model ended had h)
-
 pub own_latch : (ended had : Bool) (nodes number : ℕ) (words : List (List ℕ)) → had ≡ true → latch_fault (place_at ended had) nodes number words ≡ None → ⊥
 unfolding latch_fault
 own_latch ended had nodes number words h f =
@@ -82,14 +77,6 @@ pub own_subckt : (ended had : Bool) (number : ℕ) (words : List (List ℕ)) →
 unfolding subckt_fault
 own_subckt ended had number words h f =
     true_false (is_in_model (place_at ended had)) (in_model (place_at ended had) number (when (is_none words) (BadArity number) ∷ long_fault (subckt_names words) ∷ []) f) (not_model ended had h)
-
-pub own_start : (ended had kiss : Bool) (number : ℕ) → had ≡ true → start_fault (place_at ended had) kiss number ≡ None → ⊥
-unfolding start_fault
-own_start ended had kiss number h f = by (is_in_model (place_at ended had)) (not_model ended had h) f
-  where
-    by : (b : Bool) → b ≡ false → when (not b || kiss) (UnknownWord number) ≡ None → ⊥
-    by true e g = cc
-    by false e g = cc
 
 pub own_place : (ended had : Bool) (number : ℕ) → had ≡ true → place_fault (place_at ended had) number ≡ None → ⊥
 own_place ended had number h f =
@@ -113,6 +100,10 @@ right_latch place nodes number words f =
 pub part_begins : (ended had : Bool) (number : ℕ) → place_fault (place_at ended had) number ≡ None → had ≡ false
 part_begins ended true number f = absurd (own_place ended true number refl f)
 part_begins ended false number f = refl
+
+pub latch_begins : (ended had : Bool) (nodes number : ℕ) (words : List (List ℕ)) → latch_fault (place_at ended had) nodes number words ≡ None → had ≡ false
+latch_begins ended true nodes number words f = absurd (own_latch ended true nodes number words refl f)
+latch_begins ended false nodes number words f = refl
 
 pub gate_begins : (library : Option (List Gate)) (ended had : Bool) (nodes number : ℕ) (words : List (List ℕ)) → gate_fault library (place_at ended had) nodes number words ≡ None → had ≡ false
 gate_begins library ended true nodes number words f = absurd (own_gate library ended true nodes number words refl f)

@@ -3,6 +3,7 @@ pub mod Beside
 pub mod Faults
 pub mod PairNames
 pub mod Gates
+pub mod Growing
 pub mod Agreement
 pub mod Walk
 pub mod AfterLines

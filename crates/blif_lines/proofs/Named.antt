@@ -38,19 +38,23 @@ abbrev pub signal_names : List TheLatch → List (List ℕ)
 signal_names latches = flat_map (λ (latch : TheLatch). latch.input ∷ latch.output ∷ []) latches
 
 -- the names of a draft, each with a fact
-pub record Named (P : List ℕ → Type 0) (draft : Draft) : Type 0 where
-  pub name : P draft.name
-  pub inputs : AllByRecursion P draft.inputs
-  pub outputs : AllByRecursion P draft.outputs
-  pub clocks : AllByRecursion P draft.clocks
-  pub drives : AllByRecursion P draft.drives
-  pub inner : AllByRecursion P draft.inner
-  pub timing : AllByRecursion P (control_of draft.timing)
-  pub latches : AllByRecursion P (signal_names draft.latches)
-  pub model : AllByRecursion P (names_of draft.model_tables)
-  pub tables : AllByRecursion P (names_of (tables_with draft.tables draft.reading))
+pub record NamedParts (P : List ℕ → Type 0) (called : List ℕ) (ins outs clocked driven inside : List (List ℕ)) (timed : Option Timing) (states : List TheLatch) (own last : List Table) : Type 0 where
+  pub name : P called
+  pub inputs : AllByRecursion P ins
+  pub outputs : AllByRecursion P outs
+  pub clocks : AllByRecursion P clocked
+  pub drives : AllByRecursion P driven
+  pub inner : AllByRecursion P inside
+  pub timing : AllByRecursion P (control_of timed)
+  pub latches : AllByRecursion P (signal_names states)
+  pub model : AllByRecursion P (names_of own)
+  pub tables : AllByRecursion P (names_of last)
 
--- the names that a line mentions, those of a gate by its table; in the don't-care part those of ports are not read
+abbrev pub Named : (List ℕ → Type 0) → Draft → Type 0
+Named P draft = NamedParts P draft.name draft.inputs draft.outputs draft.clocks draft.drives draft.inner draft.timing draft.latches draft.model_tables (tables_with draft.tables draft.reading)
+
+-- the names that a line mentions, those of a gate by its table; in the don't-care part those of
+-- ports are not read
 abbrev pub mentioned : Option (List TheGate) → Bool → Keyword → List (List ℕ) → List (List ℕ)
 mentioned library had Model words = words
 mentioned library true Inputs words = []
@@ -115,16 +119,19 @@ timing_has P [] timing own a b = b
 timing_has P (latch ∷ latches) timing own a b = a
 
 pub more_has : (P : List ℕ → Type 0) (had : Bool) (names more : List (List ℕ)) → AllByRecursion P names → AllByRecursion P more → AllByRecursion P (with_more had names more)
-more_has P true names more a b = a
-more_has P false names more a b = all_append P names more a b
+more_has P had names [] a b = a
+more_has P true names (first ∷ rest) a b = a
+more_has P false names (first ∷ rest) a b = all_append P names (first ∷ rest) a b
 
 pub ports_have : (library : Option (List TheGate)) (P : List ℕ → Type 0) (had : Bool) (names words : List (List ℕ)) → AllByRecursion P names → AllByRecursion P (mentioned library had Inputs words) → AllByRecursion P (with_more had names words)
-ports_have library P true names words a b = a
-ports_have library P false names words a b = all_append P names words a b
+ports_have library P had names [] a b = a
+ports_have library P true names (first ∷ rest) a b = a
+ports_have library P false names (first ∷ rest) a b = all_append P names (first ∷ rest) a b
 
 pub outs_have : (library : Option (List TheGate)) (P : List ℕ → Type 0) (had : Bool) (names words : List (List ℕ)) → AllByRecursion P names → AllByRecursion P (mentioned library had Outputs words) → AllByRecursion P (with_more had names words)
-outs_have library P true names words a b = a
-outs_have library P false names words a b = all_append P names words a b
+outs_have library P had names [] a b = a
+outs_have library P true names (first ∷ rest) a b = a
+outs_have library P false names (first ∷ rest) a b = all_append P names (first ∷ rest) a b
 
 pub table_has : (P : List ℕ → Type 0) (tables : List Table) (words : List (List ℕ)) → AllByRecursion P words → is_none words ≡ false → AllByRecursion P (names_of tables) → AllByRecursion P (names_of (tables ++ table_of words [] ∷ []))
 unfolding table_of
@@ -146,7 +153,7 @@ some_words place nodes number words f =
     (none_later (when (is_behind place) (UnknownWord number)) (when (is_none words) (BadArity number) ∷ long_fault words ∷ one_too_many nodes ∷ many_inputs (input_words words) ∷ []) f))
 
 pub named_kept : (library : Option (List TheGate)) (P : List ℕ → Type 0) (kind : Keyword) (draft : Draft) (number : ℕ) (words whole : List (List ℕ)) → P (codes "top") → AllByRecursion P (mentioned library draft.has_part kind words) → draft_fault library kind draft number words whole ≡ None → Named P draft → Named P (with_line library kind draft number words whole)
-unfolding closed tables_with
+unfolding tables_with
 named_kept library P Model draft number words whole top a f n = record {
   name = name_has P words top a;
   inputs = n.inputs;
@@ -187,7 +194,7 @@ named_kept library P Clock draft number words whole top a f n = record {
   name = n.name;
   inputs = n.inputs;
   outputs = n.outputs;
-  clocks = all_append P draft.clocks words n.clocks a;
+  clocks = more_has P draft.has_part draft.clocks words n.clocks a;
   drives = n.drives;
   inner = n.inner;
   timing = n.timing;
@@ -212,8 +219,8 @@ named_kept library P Latch draft number words whole top a f n = record {
   inputs = n.inputs;
   outputs = n.outputs;
   clocks = n.clocks;
-  drives = all_append P draft.drives (latch_output words) n.drives (latch_output_has P words a);
-  inner = more_has P draft.lists_inputs draft.inner (latch_input words) n.inner (latch_input_has P words a);
+  drives = more_has P draft.has_part draft.drives (latch_output words) n.drives (latch_output_has P words a);
+  inner = more_has P (draft.has_part || draft.lists_inputs) draft.inner (latch_input words) n.inner (latch_input_has P words a);
   timing = timing_has P draft.latches draft.timing (timing_of words) n.timing (control_has P words a);
   latches = subst (AllByRecursion P) (sym (flat_map-append (λ (latch : TheLatch). latch.input ∷ latch.output ∷ []) draft.latches (latch_of words)))
       (all_append P (signal_names draft.latches) (signal_names (latch_of words)) n.latches (latch_has P words a));
@@ -225,38 +232,16 @@ named_kept library P Gate draft number words whole top a f n = record {
   inputs = n.inputs;
   outputs = n.outputs;
   clocks = n.clocks;
-  drives = all_append P draft.drives (outputs_of (gate_tables library words)) n.drives (gate_outputs_have P (gate_tables library words) a);
-  inner = more_has P draft.lists_inputs draft.inner (gate_inputs library words) n.inner (gate_inputs_have P library words a);
+  drives = more_has P draft.has_part draft.drives (outputs_of (gate_tables library words)) n.drives (gate_outputs_have P (gate_tables library words) a);
+  inner = more_has P (draft.has_part || draft.lists_inputs) draft.inner (gate_inputs library words) n.inner (gate_inputs_have P library words a);
   timing = n.timing;
   latches = n.latches;
   model = n.model;
   tables = subst (AllByRecursion P) (sym (flat_map-append (λ (table : Table). table.output ∷ table.inputs) (tables_with draft.tables draft.reading) (gate_tables library words)))
       (all_append P (names_of (tables_with draft.tables draft.reading)) (names_of (gate_tables library words)) n.tables a);
 }
-named_kept library P Subckt draft number words whole top a f n = record {
-  name = n.name;
-  inputs = n.inputs;
-  outputs = n.outputs;
-  clocks = n.clocks;
-  drives = n.drives;
-  inner = n.inner;
-  timing = n.timing;
-  latches = n.latches;
-  model = n.model;
-  tables = n.tables;
-}
-named_kept library P StartKiss draft number words whole top a f n = record {
-  name = n.name;
-  inputs = n.inputs;
-  outputs = n.outputs;
-  clocks = n.clocks;
-  drives = n.drives;
-  inner = n.inner;
-  timing = n.timing;
-  latches = n.latches;
-  model = n.model;
-  tables = n.tables;
-}
+named_kept library P Subckt draft number words whole top a f n = n
+named_kept library P StartKiss draft number words whole top a f n = n
 named_kept library P DontCare draft number words whole top a f n = record {
   name = n.name;
   inputs = n.inputs;
@@ -269,30 +254,8 @@ named_kept library P DontCare draft number words whole top a f n = record {
   model = n.tables;
   tables = tt;
 }
-named_kept library P End draft number words whole top a f n = record {
-  name = n.name;
-  inputs = n.inputs;
-  outputs = n.outputs;
-  clocks = n.clocks;
-  drives = n.drives;
-  inner = n.inner;
-  timing = n.timing;
-  latches = n.latches;
-  model = n.model;
-  tables = n.tables;
-}
-named_kept library P Skipped draft number words whole top a f n = record {
-  name = n.name;
-  inputs = n.inputs;
-  outputs = n.outputs;
-  clocks = n.clocks;
-  drives = n.drives;
-  inner = n.inner;
-  timing = n.timing;
-  latches = n.latches;
-  model = n.model;
-  tables = n.tables;
-}
+named_kept library P End draft number words whole top a f n = n
+named_kept library P Skipped draft number words whole top a f n = n
 named_kept library P Row draft number words whole top a f n = record {
   name = n.name;
   inputs = n.inputs;

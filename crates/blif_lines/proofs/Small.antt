@@ -40,13 +40,16 @@ pub record IsGoodTable (table : Table) : Type 0 where
   pub shaped : IsShaped table
 
 -- the tables of a draft, each with a fact, and how many nodes there are
-pub record IsSmallDraft (P : Table → Type 0) (draft : Draft) : Type 0 where
-  pub tables : AllByRecursion P (tables_with draft.tables draft.reading)
-  pub model : AllByRecursion P draft.model_tables
-  pub none : draft.has_part ≡ false → draft.model_tables ≡ []
-  pub count : length (tables_with draft.tables draft.reading) + (length draft.model_tables + length draft.latches) ≡ draft.nodes
-  pub few : draft.nodes ≤ MAX_NODES
-  pub inits : AllByRecursion (λ (latch : TheLatch). latch.init ≤ 3) draft.latches
+pub record AreSmall (P : Table → Type 0) (has_part : Bool) (own last : List Table) (states : List TheLatch) (nodes : ℕ) : Type 0 where
+  pub tables : AllByRecursion P last
+  pub model : AllByRecursion P own
+  pub none : has_part ≡ false → own ≡ []
+  pub count : length last + (length own + length states) ≡ nodes
+  pub few : nodes ≤ MAX_NODES
+  pub inits : AllByRecursion (λ (latch : TheLatch). latch.init ≤ 3) states
+
+abbrev pub IsSmallDraft : (Table → Type 0) → Draft → Type 0
+IsSmallDraft P draft = AreSmall P draft.has_part draft.model_tables (tables_with draft.tables draft.reading) draft.latches draft.nodes
 
 pub length_with : (tables : List Table) (reading : Reading) → length (tables_with tables (Some reading)) ≡ length tables + 1
 unfolding tables_with
@@ -199,11 +202,11 @@ length_behind tables None bytes = refl
 length_behind tables (Some reading) bytes = length_with tables (with_row reading bytes) ∙ sym (length_with tables reading)
 
 pub small_kept : (library : Option (List TheGate)) (P : Table → Type 0) → AreKept library P → (kind : Keyword) (draft : Draft) (number : ℕ) (words whole : List (List ℕ)) → draft_fault library kind draft number words whole ≡ None → IsSmallDraft P draft → IsSmallDraft P (with_line library kind draft number words whole)
-unfolding closed tables_with next_fault
-small_kept library P k Model draft number words whole f s = record { tables = s.tables; model = s.model; none = s.none; count = s.count; few = s.few; inits = s.inits }
-small_kept library P k Inputs draft number words whole f s = record { tables = s.tables; model = s.model; none = s.none; count = s.count; few = s.few; inits = s.inits }
-small_kept library P k Outputs draft number words whole f s = record { tables = s.tables; model = s.model; none = s.none; count = s.count; few = s.few; inits = s.inits }
-small_kept library P k Clock draft number words whole f s = record { tables = s.tables; model = s.model; none = s.none; count = s.count; few = s.few; inits = s.inits }
+unfolding tables_with next_fault
+small_kept library P k Model draft number words whole f s = s
+small_kept library P k Inputs draft number words whole f s = s
+small_kept library P k Outputs draft number words whole f s = s
+small_kept library P k Clock draft number words whole f s = s
 small_kept library P k Names draft number words whole f s =
     let before : draft.nodes < MAX_NODES = few_tables (place_of draft) draft.nodes number words f in
     let one : length (tables_with draft.tables draft.reading ++ table_of words [] ∷ []) ≡ length (tables_with draft.tables draft.reading) + 1 = length-append (tables_with draft.tables draft.reading) (table_of words [] ∷ []) in
@@ -243,14 +246,14 @@ small_kept library P k Gate draft number words whole f s =
       few = omega arith;
       inits = s.inits;
     }
-small_kept library P k Subckt draft number words whole f s = record { tables = s.tables; model = s.model; none = s.none; count = s.count; few = s.few; inits = s.inits }
-small_kept library P k StartKiss draft number words whole f s = record { tables = s.tables; model = s.model; none = s.none; count = s.count; few = s.few; inits = s.inits }
+small_kept library P k Subckt draft number words whole f s = s
+small_kept library P k StartKiss draft number words whole f s = s
 small_kept library P k DontCare draft number words whole f s =
     let all : length (tables_with draft.tables draft.reading) + (length draft.model_tables + length draft.latches) ≡ draft.nodes = s.count in
     let before : length draft.model_tables ≡ 0 = ap (λ (ts : List Table). length ts) (s.none (part_begins draft.ended draft.has_part number f)) in
     record { tables = tt; model = s.tables; none = λ h. absurd (cc); count = omega arith; few = s.few; inits = s.inits }
-small_kept library P k End draft number words whole f s = record { tables = s.tables; model = s.model; none = s.none; count = s.count; few = s.few; inits = s.inits }
-small_kept library P k Skipped draft number words whole f s = record { tables = s.tables; model = s.model; none = s.none; count = s.count; few = s.few; inits = s.inits }
+small_kept library P k End draft number words whole f s = s
+small_kept library P k Skipped draft number words whole f s = s
 small_kept library P k Row draft number words whole f s = record {
   tables = fact_behind library P k draft.tables draft.reading number (joined whole)
       (none_first (fault_behind draft.reading number (joined whole)) []

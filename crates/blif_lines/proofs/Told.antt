@@ -30,7 +30,8 @@ use Rattle.blif_lines.specs.declared.fault.BlifFault.TheVariants.{NameTwice, Mix
 use Rattle.blif_lines.specs.declared.draft.Reading.{Reading}
 use Rattle.blif_lines.specs.declared.draft.Draft.{Draft}
 use Rattle.blif_lines.proofs.NameLists.{all_map, all_kept, all_among, all_of_has, none_found, times, times_both, never, not_there, there, some_times, different_once, once_different}
-use Rattle.blif_lines.proofs.Faults.{not_mapped, right_latch, gate_begins, part_begins}
+use Rattle.blif_lines.proofs.Faults.{not_mapped, right_latch, latch_begins, gate_begins, part_begins}
+use Rattle.blif_lines.proofs.Growing.{more_own, more_kept}
 use Rattle.blif_lines.proofs.Named.{Named, all_named}
 use Rattle.blif_lines.proofs.Small.{IsSmallDraft, model_tables_are, part_tables_are}
 use Rattle.blif_lines.proofs.Gates.{gate_reads}
@@ -55,12 +56,15 @@ own_tables draft = model_of draft.has_part draft.model_tables (tables_with draft
 -- the ports are those that the inputs and the outputs have, the driven signals those that latches
 -- and tables drive, and what a table, latch or output reads is among the read ones; timing goes
 -- with latches, and its control is not `NIL`
-pub record IsToldDraft (draft : Draft) : Type 0 where
-  pub ports : (name : List ℕ) → times draft.ports name ≡ times draft.inputs name + times draft.outputs name
-  pub drives : (name : List ℕ) → times draft.drives name ≡ times (states_of draft.latches) name + times (outputs_of (own_tables draft)) name
-  pub reads : (name : List ℕ) → 0 < times (table_inputs (own_tables draft)) name + (times (inputs_of draft.latches) name + times draft.outputs name) → 0 < times draft.reads name
-  pub untimed : draft.latches ≡ [] → draft.timing ≡ None
-  pub not_nil : has (control_of draft.timing) (codes "NIL") ≡ false
+pub record AreTold (listed inputs outputs driven read : List (List ℕ)) (timing : Option Timing) (latches : List TheLatch) (tables : List Table) : Type 0 where
+  pub ports : (name : List ℕ) → times listed name ≡ times inputs name + times outputs name
+  pub drives : (name : List ℕ) → times driven name ≡ times (states_of latches) name + times (outputs_of tables) name
+  pub reads : (name : List ℕ) → 0 < times (table_inputs tables) name + (times (inputs_of latches) name + times outputs name) → 0 < times read name
+  pub untimed : latches ≡ [] → timing ≡ None
+  pub not_nil : has (control_of timing) (codes "NIL") ≡ false
+
+abbrev pub IsToldDraft : Draft → Type 0
+IsToldDraft draft = AreTold draft.ports draft.inputs draft.outputs draft.drives draft.reads draft.timing draft.latches (own_tables draft)
 
 -- two numbers grow: the second is some where the first is
 grown : (first second more others : ℕ) → (0 < first → 0 < second) → (0 < more → 0 < others) → 0 < first + more → 0 < second + others
@@ -87,25 +91,31 @@ latch_reads (input ∷ []) e = absurd (cc)
 latch_reads (input ∷ output ∷ rest) e = refl
 
 -- a name more for the model
+times_more : (had : Bool) (names words : List (List ℕ)) (name : List ℕ) → had ≡ false → times (with_more had names words) name ≡ times names name + times words name
+times_more had names words name h = ap (λ all. times all name) (more_own had names words h) ∙ times_both name names words
+
+times_kept : (had : Bool) (names words : List (List ℕ)) (name : List ℕ) → had ≡ true → times (with_more had names words) name ≡ times names name
+times_kept had names words name h = ap (λ all. times all name) (more_kept had names words h)
+
 pub ports_both : (had : Bool) (ports inputs outputs words : List (List ℕ)) (name : List ℕ) → times ports name ≡ times inputs name + times outputs name → times (with_more had ports words) name ≡ times (with_more had inputs words) name + times outputs name
-ports_both true ports inputs outputs words name e = e
-ports_both false ports inputs outputs words name e =
-    let left : times (ports ++ words) name ≡ times ports name + times words name = times_both name ports words in
-    let right : times (inputs ++ words) name ≡ times inputs name + times words name = times_both name inputs words in omega arith
+ports_both true ports inputs outputs words name e = omega (arith, times_kept true ports words name refl, times_kept true inputs words name refl)
+ports_both false ports inputs outputs words name e = omega (arith, times_more false ports words name refl, times_more false inputs words name refl)
 
 pub outs_both : (had : Bool) (ports inputs outputs words : List (List ℕ)) (name : List ℕ) → times ports name ≡ times inputs name + times outputs name → times (with_more had ports words) name ≡ times inputs name + times (with_more had outputs words) name
-outs_both true ports inputs outputs words name e = e
-outs_both false ports inputs outputs words name e =
-    let left : times (ports ++ words) name ≡ times ports name + times words name = times_both name ports words in
-    let right : times (outputs ++ words) name ≡ times outputs name + times words name = times_both name outputs words in omega arith
+outs_both true ports inputs outputs words name e = omega (arith, times_kept true ports words name refl, times_kept true outputs words name refl)
+outs_both false ports inputs outputs words name e = omega (arith, times_more false ports words name refl, times_more false outputs words name refl)
 
 pub reads_outs : (had : Bool) (reads within latched outputs words : List (List ℕ)) (name : List ℕ) → (0 < times within name + (times latched name + times outputs name) → 0 < times reads name)
     → 0 < times within name + (times latched name + times (with_more had outputs words) name) → 0 < times (with_more had reads words) name
-reads_outs true reads within latched outputs words name h s = h s
+reads_outs true reads within latched outputs words name h s =
+    let right = times_kept true outputs words name refl in
+    let some : 0 < times reads name = h (omega (arith, right)) in
+    omega (arith, some, times_kept true reads words name refl)
 reads_outs false reads within latched outputs words name h s =
-    let left : times (reads ++ words) name ≡ times reads name + times words name = times_both name reads words in
-    let right : times (outputs ++ words) name ≡ times outputs name + times words name = times_both name outputs words in
-    let some : 0 < times reads name + times words name = grown (times within name + (times latched name + times outputs name)) (times reads name) (times words name) (times words name) h (λ p. p) (omega arith) in omega arith
+    let left = times_more false reads words name refl in
+    let right = times_more false outputs words name refl in
+    let some : 0 < times reads name + times words name = grown (times within name + (times latched name + times outputs name)) (times reads name) (times words name) (times words name) h (λ p. p) (omega (arith, right)) in
+    omega (arith, some, left)
 
 pub drives_table : (had : Bool) (drives states : List (List ℕ)) (model tables : List Table) (table : Table) (name : List ℕ) → times drives name ≡ times states name + times (outputs_of (model_of had model tables)) name
     → times (with_more had drives (table.output ∷ [])) name ≡ times states name + times (outputs_of (model_of had model (tables ++ table ∷ []))) name
@@ -118,12 +128,15 @@ drives_table false drives states model tables table name e =
 
 pub reads_table : (had : Bool) (reads latched outputs : List (List ℕ)) (model tables : List Table) (table : Table) (name : List ℕ) → (0 < times (table_inputs (model_of had model tables)) name + (times latched name + times outputs name) → 0 < times reads name)
     → 0 < times (table_inputs (model_of had model (tables ++ table ∷ []))) name + (times latched name + times outputs name) → 0 < times (with_more had reads table.inputs) name
-reads_table true reads latched outputs model tables table name h s = h s
+reads_table true reads latched outputs model tables table name h s =
+    let some : 0 < times reads name = h s in
+    omega (arith, some, times_kept true reads table.inputs name refl)
 reads_table false reads latched outputs model tables table name h s =
-    let left : times (reads ++ table.inputs) name ≡ times reads name + times table.inputs name = times_both name reads table.inputs in
+    let left = times_more false reads table.inputs name refl in
     let right : times (table_inputs (tables ++ table ∷ [])) name ≡ times (table_inputs tables) name + times table.inputs name =
     ap (λ names. times names name) (inputs_more tables table) ∙ times_both name (table_inputs tables) table.inputs in
-    let some : 0 < times reads name + times table.inputs name = grown (times (table_inputs tables) name + (times latched name + times outputs name)) (times reads name) (times table.inputs name) (times table.inputs name) h (λ p. p) (omega arith) in omega arith
+    let some : 0 < times reads name + times table.inputs name = grown (times (table_inputs tables) name + (times latched name + times outputs name)) (times reads name) (times table.inputs name) (times table.inputs name) h (λ p. p) (omega arith) in
+    omega (arith, some, left)
 
 pub some_latches : (latches : List TheLatch) (words : List (List ℕ)) → is_latch words ≡ true → latches ++ latch_of words ≡ [] → ⊥
 some_latches [] [] is e = cc
@@ -147,30 +160,30 @@ unfolding timing_with
 nil_with [] timing own a b = b
 nil_with (latch ∷ latches) timing own a b = a
 
-pub told_latch : (library : Option (List TheGate)) (draft : Draft) (number : ℕ) (words whole : List (List ℕ)) → is_latch words ≡ true → IsToldDraft draft → IsToldDraft (with_line library Latch draft number words whole)
-unfolding closed tables_with
-told_latch library draft number words whole is t = record {
+pub told_latch : (library : Option (List TheGate)) (draft : Draft) (number : ℕ) (words whole : List (List ℕ)) → is_latch words ≡ true → draft.has_part ≡ false → IsToldDraft draft → IsToldDraft (with_line library Latch draft number words whole)
+unfolding tables_with
+told_latch library draft number words whole is own t = record {
   ports = t.ports;
   drives = λ name.
       let before : times draft.drives name ≡ times (states_of draft.latches) name + times (outputs_of (own_tables draft)) name = t.drives name in
-      let left : times (draft.drives ++ latch_output words) name ≡ times draft.drives name + times (latch_output words) name = times_both name draft.drives (latch_output words) in
+      let left = times_more draft.has_part draft.drives (latch_output words) name own in
       let right : times (states_of (draft.latches ++ latch_of words)) name ≡ times (states_of draft.latches) name + times (latch_output words) name =
       ap (λ names. times names name) (map-append (λ (l : TheLatch). l.output) draft.latches (latch_of words)) ∙ (times_both name (states_of draft.latches) (states_of (latch_of words)) ∙ ap (λ names. times (states_of draft.latches) name + times names name) (latch_states words is)) in
-      omega arith;
+      omega (arith, left);
   reads = λ name s.
-      let left : times (draft.reads ++ latch_input words) name ≡ times draft.reads name + times (latch_input words) name = times_both name draft.reads (latch_input words) in
+      let left = times_more draft.has_part draft.reads (latch_input words) name own in
       let right : times (inputs_of (draft.latches ++ latch_of words)) name ≡ times (inputs_of draft.latches) name + times (latch_input words) name =
       ap (λ names. times names name) (map-append (λ (l : TheLatch). l.input) draft.latches (latch_of words)) ∙ (times_both name (inputs_of draft.latches) (inputs_of (latch_of words)) ∙ ap (λ names. times (inputs_of draft.latches) name + times names name) (latch_reads words is)) in
       let some : 0 < times draft.reads name + times (latch_input words) name =
       grown (times (table_inputs (own_tables draft)) name + (times (inputs_of draft.latches) name + times draft.outputs name)) (times draft.reads name) (times (latch_input words) name) (times (latch_input words) name) (t.reads name) (λ p. p) (omega arith) in
-      omega arith;
+      omega (arith, left);
   untimed = λ e. absurd (some_latches draft.latches words is e);
   not_nil = nil_with draft.latches draft.timing (timing_of words) t.not_nil (nil_not words);
 }
 
 -- a gate's table comes after those of the model
 pub told_gate : (library : Option (List TheGate)) (draft : Draft) (number : ℕ) (words whole : List (List ℕ)) → draft.has_part ≡ false → IsToldDraft draft → IsToldDraft (with_line library Gate draft number words whole)
-unfolding closed tables_with
+unfolding tables_with
 told_gate library draft number words whole own t =
     let before : List Table = tables_with draft.tables draft.reading in
     let more : List Table = gate_tables library words in
@@ -180,19 +193,19 @@ told_gate library draft number words whole own t =
       ports = t.ports;
       drives = λ name.
           let was : times draft.drives name ≡ times (states_of draft.latches) name + times (outputs_of before) name = t.drives name ∙ ap (λ tables. times (states_of draft.latches) name + times (outputs_of tables) name) old in
-          let left : times (draft.drives ++ outputs_of more) name ≡ times draft.drives name + times (outputs_of more) name = times_both name draft.drives (outputs_of more) in
+          let left = times_more draft.has_part draft.drives (outputs_of more) name own in
           let right : times (outputs_of (model_of draft.has_part draft.model_tables (before ++ more))) name ≡ times (outputs_of before) name + times (outputs_of more) name =
           ap (λ tables. times (outputs_of tables) name) new ∙ (ap (λ names. times names name) (map-append (λ (table : Table). table.output) before more) ∙ times_both name (outputs_of before) (outputs_of more)) in
-          omega arith;
+          omega (arith, left);
       reads = λ name s.
           let was : times (table_inputs (own_tables draft)) name ≡ times (table_inputs before) name = ap (λ tables. times (table_inputs tables) name) old in
-          let left : times (draft.reads ++ gate_inputs library words) name ≡ times draft.reads name + times (gate_inputs library words) name = times_both name draft.reads (gate_inputs library words) in
+          let left = times_more draft.has_part draft.reads (gate_inputs library words) name own in
           let right : times (table_inputs (model_of draft.has_part draft.model_tables (before ++ more))) name ≡ times (table_inputs before) name + times (table_inputs more) name =
           ap (λ tables. times (table_inputs tables) name) new ∙ (ap (λ names. times names name) (flat_map-append (λ (table : Table). table.inputs) before more) ∙ times_both name (table_inputs before) (table_inputs more)) in
           let some : 0 < times draft.reads name + times (gate_inputs library words) name =
           grown (times (table_inputs (own_tables draft)) name + (times (inputs_of draft.latches) name + times draft.outputs name)) (times draft.reads name) (times (table_inputs more) name) (times (gate_inputs library words) name) (t.reads name)
           (λ p. some_times (gate_inputs library words) name (gate_reads library words name (there (table_inputs more) name p))) (omega arith) in
-          omega arith;
+          omega (arith, left);
       untimed = t.untimed;
       not_nil = t.not_nil;
     }
@@ -217,13 +230,13 @@ own_inputs true model tables reading bytes = refl
 own_inputs false model tables reading bytes = row_inputs tables reading bytes
 
 pub told_kept : (library : Option (List TheGate)) (kind : Keyword) (draft : Draft) (number : ℕ) (words whole : List (List ℕ)) → draft_fault library kind draft number words whole ≡ None → IsToldDraft draft → IsToldDraft (with_line library kind draft number words whole)
-unfolding closed tables_with table_of
-told_kept library Model draft number words whole f t = record { ports = t.ports; drives = t.drives; reads = t.reads; untimed = t.untimed; not_nil = t.not_nil }
-told_kept library Clock draft number words whole f t = record { ports = t.ports; drives = t.drives; reads = t.reads; untimed = t.untimed; not_nil = t.not_nil }
-told_kept library End draft number words whole f t = record { ports = t.ports; drives = t.drives; reads = t.reads; untimed = t.untimed; not_nil = t.not_nil }
-told_kept library Subckt draft number words whole f t = record { ports = t.ports; drives = t.drives; reads = t.reads; untimed = t.untimed; not_nil = t.not_nil }
-told_kept library StartKiss draft number words whole f t = record { ports = t.ports; drives = t.drives; reads = t.reads; untimed = t.untimed; not_nil = t.not_nil }
-told_kept library Skipped draft number words whole f t = record { ports = t.ports; drives = t.drives; reads = t.reads; untimed = t.untimed; not_nil = t.not_nil }
+unfolding tables_with table_of
+told_kept library Model draft number words whole f t = t
+told_kept library Clock draft number words whole f t = t
+told_kept library End draft number words whole f t = t
+told_kept library Subckt draft number words whole f t = t
+told_kept library StartKiss draft number words whole f t = t
+told_kept library Skipped draft number words whole f t = t
 told_kept library Inputs draft number words whole f t = record {
   ports = λ name. ports_both draft.has_part draft.ports draft.inputs draft.outputs words name (t.ports name);
   drives = t.drives;
@@ -245,7 +258,7 @@ told_kept library Names draft number words whole f t = record {
   untimed = t.untimed;
   not_nil = t.not_nil;
 }
-told_kept library Latch draft number words whole f t = told_latch library draft number words whole (right_latch (place_of draft) draft.nodes number words f) t
+told_kept library Latch draft number words whole f t = told_latch library draft number words whole (right_latch (place_of draft) draft.nodes number words f) (latch_begins draft.ended draft.has_part draft.nodes number words f) t
 told_kept library Gate draft number words whole f t = told_gate library draft number words whole (gate_begins library draft.ended draft.has_part draft.nodes number words f) t
 told_kept library DontCare draft number words whole f t =
     let own : own_tables draft ≡ tables_with draft.tables draft.reading = ap (λ b. model_of b draft.model_tables (tables_with draft.tables draft.reading)) (part_begins draft.ended draft.has_part number f) in

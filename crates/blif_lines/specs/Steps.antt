@@ -1,7 +1,9 @@
--- The reader's own steps: what it keeps of the lines that it has read, and what one more line adds
--- to that. Source: BLIF appendix of the SIS report (UCB/ERL M92/41). Lines and Reader define what a
--- file describes; these are the steps of the code, which goes through the lines once. A law says
--- that both agree. Only clauses of private functions cite this module.
+-- What the reader keeps of the lines that it has read, and what one more line adds to it. Source:
+-- BLIF appendix of the SIS report (UCB/ERL M92/41). Lines and Reader say what a line means, and
+-- what all lines mean; here each list grows by what Reader says of the line, so the meaning of a
+-- kind of line is defined once. A law says that lines taken one by one are read as Reader says.
+-- Only clauses of private functions cite this module, and those of blif_models, which takes lines
+-- one by one too.
 use Rattle.std.specs.Prelude.{◌≡◌, ℕ, ◌+◌, Bool, true, false, not, ◌&&◌, ◌||◌, ◌==◌, nat_le, Option, Some, None, Result, Ok, Err, List, [], ◌∷◌, ◌++◌, map, find, length, codes, if◌then◌else◌}
 use Rattle.std.specs.Option.{option_map}
 use Rattle.circuit_model.specs.Names.{has, all_different}
@@ -18,9 +20,9 @@ use Rattle.circuit_checks.specs.PartChecks.{first_bad_part_name}
 use Rattle.circuit_tables.specs.Folding.{folded}
 use Rattle.line_words.specs.LineWords.{first_word, other_words}
 use Rattle.genlib_format.specs.declared.gate.Gate.{Gate as TheGate}
-use Rattle.blif_lines.specs.Keyword.{keyword_of}
-use Rattle.blif_lines.specs.Lines.{when, first_of, input_words, last_word, joined, is_row_of, output_character, is_behind, model_fault, ports_fault, clock_fault, names_fault, latch_fault, gate_fault, subckt_fault, start_fault, place_fault, is_none}
-use Rattle.blif_lines.specs.Reader.{row_of, named_by, table_of, latch_of, latch_input, latch_output, timing_of, same_timing, names_beside, gate_tables, gate_inputs, listed_where, unless}
+use Rattle.blif_lines.specs.Keyword.{keyword_of, is_row_kind}
+use Rattle.blif_lines.specs.Lines.{when, first_of, input_words, last_word, joined, is_row_of, output_character, is_behind, model_fault, ports_fault, clock_fault, names_fault, latch_fault, gate_fault, subckt_fault, start_fault, place_fault, is_none, is_end_kind, begins_part, begins_kiss, is_node_kind}
+use Rattle.blif_lines.specs.Reader.{row_of, named_by, table_of, latch_of, timing_of, same_timing, names_beside, gate_tables, listed_where, unless, listed_inputs, listed_outputs, listed_ports, listed_clocks, driven_by, read_by, read_within, is_inputs_kind, is_outputs_kind, is_latch_line, is_instance_kind}
 use Rattle.blif_lines.specs.declared.keyword.Keyword.{Keyword}
 use Rattle.blif_lines.specs.declared.keyword.Keyword.TheVariants.{Model, Inputs, Outputs, Clock, Names, Latch, Gate, Subckt, StartKiss, DontCare, End, Skipped, Row, Other}
 use Rattle.blif_lines.specs.declared.part.Part.{Part}
@@ -118,10 +120,11 @@ draft_fault library Skipped draft number words whole = place_fault (place_of dra
 draft_fault library Row draft number words whole = next_fault (place_of draft) draft.reading number (joined whole)
 draft_fault library Other draft number words whole = Some (UnknownWord number)
 
--- the names with more appended, while the lists of the model still grow
-abbrev pub with_more : Bool → List (List ℕ) → List (List ℕ) → List (List ℕ)
-with_more true names more = names
-with_more false names more = names ++ more
+-- a list with what a line adds to it, as long as it grows
+abbrev pub with_more : {A : Type 0} → Bool → List A → List A → List A
+with_more had items [] = items
+with_more true items (first ∷ rest) = items
+with_more false items (first ∷ rest) = items ++ first ∷ rest
 
 -- the timing of the first latch, after one more latch with its own
 unfoldable pub timing_with : List TheLatch → Option Timing → Option Timing → Option Timing
@@ -134,55 +137,75 @@ unfoldable pub mixed_with : Option ℕ → Option Timing → ℕ → Option Timi
 mixed_with None timing number own = if same_timing timing own then None else Some number
 mixed_with (Some line) timing number own = Some line
 
--- the draft after a line
-abbrev pub with_line : Option (List TheGate) → Keyword → Draft → ℕ → List (List ℕ) → List (List ℕ) → Draft
-with_line library Model draft number words whole = record (closed draft) { name = named_by Model words }
-with_line library Inputs draft number words whole = record (closed draft) {
-  lists_inputs = not draft.has_part || draft.lists_inputs;
-  inputs = with_more draft.has_part draft.inputs words;
-  ports = with_more draft.has_part draft.ports words;
+-- the name of the model after a line
+abbrev pub name_with : Keyword → List ℕ → List (List ℕ) → List ℕ
+name_with Model name words = named_by Model words
+name_with kind name words = name
+
+-- whether a kind is that of tables with rows of their own
+abbrev pub is_table_kind : Keyword → Bool
+is_table_kind Names = true
+is_table_kind kind = false
+
+-- tables with that of a `.gate` line, which comes from the library
+abbrev pub cells_with : Option (List TheGate) → Keyword → List Table → List (List ℕ) → List Table
+cells_with library Gate tables words = tables ++ gate_tables library words
+cells_with library kind tables words = tables
+
+-- the table that is read after a line, unless the line is a row: that of a `.names` line
+abbrev pub begun_by : Keyword → List (List ℕ) → Option Reading
+begun_by kind words =
+    if is_table_kind kind then Some (record { table = table_of words []; mark = 0 }) else None
+
+-- the table that is being read after a line
+abbrev pub reading_with : Keyword → Draft → List (List ℕ) → List (List ℕ) → Option Reading
+reading_with kind draft words whole =
+    if is_row_kind kind then row_behind draft.reading (joined whole) else begun_by kind words
+
+-- the tables that were read last, after a line: the one that was being read is among them, unless
+-- the line is its row; the don't-care part begins without tables
+abbrev pub last_with : Option (List TheGate) → Keyword → Draft → List (List ℕ) → List Table
+last_with library kind draft words =
+    if is_row_kind kind then draft.tables
+    else (if begins_part kind then []
+    else cells_with library kind (tables_with draft.tables draft.reading) words)
+
+-- the timing of the first latch after a latch with these words
+abbrev pub first_with : Draft → List (List ℕ) → Option Timing
+first_with draft words = timing_with draft.latches draft.timing (timing_of words)
+
+-- the draft after a line: each list has what the line adds to it
+abbrev pub with_line :
+    Option (List TheGate) → Keyword → Draft → ℕ → List (List ℕ) → List (List ℕ) → Draft
+with_line library kind draft number words whole = record {
+  begun = true;
+  ended = is_end_kind kind || draft.ended;
+  has_part = begins_part kind || draft.has_part;
+  has_kiss = begins_kiss kind || draft.has_kiss;
+  has_instances = is_instance_kind kind || draft.has_instances;
+  name = name_with kind draft.name words;
+  lists_inputs = is_inputs_kind kind && not draft.has_part || draft.lists_inputs;
+  inputs = with_more draft.has_part draft.inputs (listed_inputs kind words);
+  lists_outputs = is_outputs_kind kind && not draft.has_part || draft.lists_outputs;
+  outputs = with_more draft.has_part draft.outputs (listed_outputs kind words);
+  ports = with_more draft.has_part draft.ports (listed_ports kind words);
+  clocks = with_more draft.has_part draft.clocks (listed_clocks kind words);
+  drives = with_more draft.has_part draft.drives (driven_by library kind words);
+  reads = with_more draft.has_part draft.reads (read_by library kind words);
+  inner = with_more (draft.has_part || draft.lists_inputs) draft.inner
+      (read_within library kind words);
+  timing = if is_latch_line kind then first_with draft words else draft.timing;
+  mixed = if is_latch_line kind
+      then mixed_with draft.mixed (first_with draft words) number (timing_of words)
+      else draft.mixed;
+  latches = if is_latch_line kind then draft.latches ++ latch_of words else draft.latches;
+  model_tables = if begins_part kind
+      then tables_with draft.tables draft.reading
+      else draft.model_tables;
+  tables = last_with library kind draft words;
+  reading = reading_with kind draft words whole;
+  nodes = if is_node_kind kind then draft.nodes + 1 else draft.nodes;
 }
-with_line library Outputs draft number words whole = record (closed draft) {
-  lists_outputs = not draft.has_part || draft.lists_outputs;
-  outputs = with_more draft.has_part draft.outputs words;
-  ports = with_more draft.has_part draft.ports words;
-  reads = with_more draft.has_part draft.reads words;
-}
-with_line library Clock draft number words whole = record (closed draft) { clocks = draft.clocks ++ words }
-with_line library Names draft number words whole = record (closed draft) {
-  drives = with_more draft.has_part draft.drives (last_word words ∷ []);
-  reads = with_more draft.has_part draft.reads (input_words words);
-  inner = with_more (draft.has_part || draft.lists_inputs) draft.inner (input_words words);
-  reading = Some (record { table = table_of words []; mark = 0 });
-  nodes = draft.nodes + 1;
-}
-with_line library Latch draft number words whole = record (closed draft) {
-  drives = draft.drives ++ latch_output words;
-  reads = draft.reads ++ latch_input words;
-  inner = with_more draft.lists_inputs draft.inner (latch_input words);
-  timing = timing_with draft.latches draft.timing (timing_of words);
-  mixed = mixed_with draft.mixed (timing_with draft.latches draft.timing (timing_of words)) number (timing_of words);
-  latches = draft.latches ++ latch_of words;
-  nodes = draft.nodes + 1;
-}
-with_line library Gate draft number words whole = record (closed draft) {
-  drives = draft.drives ++ outputs_of (gate_tables library words);
-  reads = draft.reads ++ gate_inputs library words;
-  inner = with_more draft.lists_inputs draft.inner (gate_inputs library words);
-  tables = tables_with draft.tables draft.reading ++ gate_tables library words;
-  nodes = draft.nodes + 1;
-}
-with_line library Subckt draft number words whole = record (closed draft) { has_instances = true }
-with_line library StartKiss draft number words whole = record (closed draft) { has_kiss = true }
-with_line library DontCare draft number words whole = record (closed draft) {
-  has_part = true;
-  model_tables = tables_with draft.tables draft.reading;
-  tables = [];
-}
-with_line library End draft number words whole = record (closed draft) { ended = true }
-with_line library Skipped draft number words whole = closed draft
-with_line library Row draft number words whole = record draft { begun = true; reading = row_behind draft.reading (joined whole) }
-with_line library Other draft number words whole = draft
 
 -- a line of a kind added to what is kept, or its fault
 unfoldable pub take_as : Option (List TheGate) → Keyword → Draft → ℕ → List (List ℕ) → List (List ℕ) → Result Draft BlifFault

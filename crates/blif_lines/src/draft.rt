@@ -285,7 +285,7 @@ impl Draft {
     {
         let fault = clock_fault(self.place(), number, words);
         self.close_unless(fault)?;
-        add_names(alloc, &mut self.clocks, words)?;
+        add_more(alloc, self.has_part, &mut self.clocks, words)?;
         Ok(())
     }
 
@@ -315,10 +315,11 @@ impl Draft {
     {
         let fault = latch_fault(self.place(), self.nodes, number, words);
         self.close_unless(fault)?;
-        add_names(alloc, &mut self.drives, latch_output(words))?;
         let input = first_words(words, 1);
-        add_names(alloc, &mut self.reads, input)?;
-        add_more(alloc, self.lists_inputs, &mut self.inner, input)?;
+        let kept = self.has_part || self.lists_inputs;
+        add_more(alloc, self.has_part, &mut self.drives, latch_output(words))?;
+        add_more(alloc, self.has_part, &mut self.reads, input)?;
+        add_more(alloc, kept, &mut self.inner, input)?;
         let own = timing_of(alloc, words)?;
         let timing = shared(self.latches.as_slice(), &self.timing, &own);
         self.mixed = mixed_at(self.mixed, timing, number, &own);
@@ -395,10 +396,12 @@ impl Draft {
         // Wrapped in a `Whole`, so that dropping it is one call.
         let table = Whole { it: table };
         self.close_unless(None)?;
+        let output = [table.it.output.as_slice()];
         let inputs = table.it.inputs.as_slice();
-        self.drives.push(table.it.output.copy(alloc)?)?;
-        add_gate_signals(alloc, false, &mut self.reads, words, inputs)?;
-        add_gate_signals(alloc, self.lists_inputs, &mut self.inner, words, inputs)?;
+        let kept = self.has_part || self.lists_inputs;
+        add_more(alloc, self.has_part, &mut self.drives, output.as_slice())?;
+        add_gate_signals(alloc, self.has_part, &mut self.reads, words, inputs)?;
+        add_gate_signals(alloc, kept, &mut self.inner, words, inputs)?;
         self.tables.push(table.into_it())?;
         self.nodes += 1;
         Ok(())
