@@ -20,6 +20,7 @@ use Rattle.net_core.specs.Fresh.{node_count}
 use Rattle.net_core.proofs.NewNames.{new_name_one}
 use Rattle.net_core.specs.Reads.{IsBounded}
 use Rattle.net_work.specs.Placed.{Placed, standing, circuit_of, table_at, with_last}
+use Rattle.net_work.proofs.Indexed.{standing_map}
 use Rattle.net_work.proofs.Standing.{standing_push}
 use Rattle.alg_tables.specs.Dividing.{divided, cover_table}
 use Rattle.net_extract.specs.Extract.{HasExtracted}
@@ -30,7 +31,6 @@ use Rattle.net_savings.specs.declared.fault.SavingsFault.{SavingsFault}
 use Rattle.net_savings.specs.declared.fault.SavingsFault.TheVariants.{ManyKernels, Memory as SavingsMemory}
 use Rattle.net_extract.specs.declared.fault.ExtractFault.{ExtractFault}
 use Rattle.net_extract.specs.declared.fault.ExtractFault.TheVariants.{KernelLimit, NodeLimit, Memory}
-use Rattle.net_savings.proofs.Slots.{standing_turned}
 use Rattle.net_savings.proofs.Summing.{rising_once}
 use Rattle.net_savings.proofs.Losing.{AreAll}
 use Rattle.net_extract.proofs.Places.{divided_all}
@@ -46,7 +46,7 @@ module _ (name : List ℕ) (cover : NamedCover) where
       ap (λ (p : Placed). circuit_of p) (is ∙ ap (with_divided name cover places) added)
       ∙ ap (λ (slots : List (Option Table)). with_tables before.frame (standing slots)) (divided_all name cover before.slots places are within (Some (cover_table name cover)))
       ∙ ap (λ (tables : List Table). with_tables before.frame tables) (standing_push (map (divided_slot name cover) before.slots) (cover_table name cover))
-      ∙ ap (λ (tables : List Table). with_tables before.frame (tables ++ cover_table name cover ∷ [])) (standing_turned (divided name true cover) before.slots)
+      ∙ ap (λ (tables : List Table). with_tables before.frame (tables ++ cover_table name cover ∷ [])) (standing_map (divided name true cover) before.slots)
 
   pub added_bounded : (before between : Placed) → IsAdded cover name before between → AllByRecursion IsBounded (standing before.slots) → AllByRecursion IsBounded (standing between.slots)
   added_bounded before between added all =

@@ -19,6 +19,7 @@ use Rattle.cover_names.specs.Literals.{NamedCover}
 use Rattle.cover_names.specs.Cubes.{is_over}
 use Rattle.net_core.specs.Fresh.{IsNewName}
 use Rattle.net_work.specs.Placed.{Placed, standing, circuit_of, table_at}
+use Rattle.net_work.proofs.Indexed.{all_at, all_standing}
 use Rattle.net_savings.specs.Orders.{cover_eq}
 use Rattle.net_savings.specs.Ranking.{KnownCovers, saving_in, saved_by, covers_under}
 use Rattle.net_savings.proofs.Best.{IsBestOf}
@@ -29,7 +30,7 @@ use Rattle.net_savings.specs.Saving.{IsSaving}
 use Rattle.net_savings.specs.Savings.{IsNoted, IsRight, AreNotes, IsIn, held_at}
 use Rattle.net_savings.proofs.Owning.{own_candidate, candidate_either, shared_candidate, own_over}
 use Rattle.net_savings.proofs.Sharers.{shared_at_places}
-use Rattle.net_savings.proofs.Slots.{stands, all_at, all_standing}
+use Rattle.net_savings.proofs.Slots.{stands}
 use Rattle.net_savings.proofs.Found.{none_done, best_next}
 use Rattle.net_savings.proofs.Refreshed.{named_literal, in_next}
 

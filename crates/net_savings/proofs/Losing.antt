@@ -17,11 +17,11 @@ use Rattle.net_readers.specs.Fanouts.{is_in}
 use Rattle.cover_names.specs.Literals.{NamedCover}
 use Rattle.cover_names.specs.Cubes.{is_over}
 use Rattle.net_work.specs.Placed.{standing, table_at}
+use Rattle.net_work.proofs.Indexed.{all_at, all_standing}
 use Rattle.alg_tables.specs.Dividing.{divided, cover_table}
 use Rattle.alg_tables.proofs.Divided.{unread_stays}
 use Rattle.circuit_tables.specs.Tidy.{IsWide}
 use Rattle.net_savings.specs.Saving.{lost_by, lost_of, lost_at, IsNarrowIn, IsLoss, AreLosses, IsSaved}
-use Rattle.net_savings.proofs.Slots.{all_at, all_standing}
 use Rattle.net_savings.proofs.Summing.{in_has, sum_places}
 use Rattle.net_savings.proofs.Reading.{divided_reads_name}
 use Rattle.sis_base.specs.declared.limits.TheConstants.{MAX_INPUTS}

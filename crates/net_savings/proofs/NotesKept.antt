@@ -14,12 +14,12 @@ use Rattle.cover_names.specs.Cubes.{names_in}
 use Rattle.alg_tables.specs.Dividing.{divided}
 use Rattle.net_core.proofs.Lookups.{get_set_other}
 use Rattle.net_work.specs.Placed.{Placed, joined, table_at, with_slot, with_last}
+use Rattle.net_work.proofs.Indexed.{place_within}
 use Rattle.net_savings.specs.Meeting.{IsAside}
 use Rattle.net_savings.specs.Savings.{AreNotes}
 use Rattle.net_savings.proofs.KeptLists.{before, cleared, kept_set, kept_push, within}
 use Rattle.net_savings.proofs.Refreshed.{has_name_next}
 use Rattle.net_savings.proofs.Sharers.{shared_by_same}
-use Rattle.net_savings.proofs.Slots.{stands_below}
 use Rattle.net_savings.proofs.Untouched.{exact_after_set, exact_after_add, unread_all}
 
 -- an index is has_none among indices, nor the last of them
@@ -229,5 +229,5 @@ notes_begin rule now saving under own met fresh nothing none long empty all = re
   exact = λ name cover m away number e. absurd (none-some number (sym (nothing cover) ∙ e));
   noted = λ at covers e. absurd (empty at covers e);
   shared = λ one other cover (covers, e) second by. absurd (empty one covers e);
-  listed = λ at table stands away. absurd (false≢true (sym away ∙ all at (stands_below now.slots at table stands)));
+  listed = λ at table stands away. absurd (false≢true (sym away ∙ all at (place_within now.slots at table stands)));
 }

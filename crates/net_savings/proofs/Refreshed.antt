@@ -20,12 +20,13 @@ use Rattle.cover_names.specs.Cubes.{names_in}
 use Rattle.cover_names.specs.declared.literal.Literal.{Literal}
 use Rattle.net_core.specs.Fresh.{IsNewName}
 use Rattle.net_work.specs.Placed.{Placed, standing, circuit_of, table_at}
+use Rattle.net_work.proofs.Indexed.{place_within}
 use Rattle.net_savings.specs.Ranking.{KnownCovers, saving_in, covers_under}
 use Rattle.net_savings.specs.Listing.{AreOwn, IsListed}
 use Rattle.net_savings.specs.Savings.{IsRight, IsNoted, AreNotes, IsGrown, AreTrue}
 use Rattle.net_savings.specs.Sharing.{IsSharedBy, AreSharedHere}
 use Rattle.net_savings.proofs.Sharers.{shared_by_turned}
-use Rattle.net_savings.proofs.Slots.{stands, stands_below}
+use Rattle.net_savings.proofs.Slots.{stands}
 use Rattle.net_savings.proofs.Found.{candidate_some}
 use Rattle.net_savings.proofs.Owning.{own_candidate}
 
@@ -267,5 +268,5 @@ module _ (rule : Rule) (placed : Placed) (old new : KnownCovers) (own : List (Op
   }
     where
       cases : (at : ℕ) (table : Table) → table_at placed.slots at ≡ Some table → (b : Bool) → is_in fresh at ≡ b → IsListed last_own at
-      cases at table there true h = listed at h (stands_below placed.slots at table there)
+      cases at table there true h = listed at h (place_within placed.slots at table there)
       cases at table there false h = stay at (notes.listed at table there h)

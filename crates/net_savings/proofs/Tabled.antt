@@ -14,6 +14,7 @@ use Rattle.net_core.specs.Tables.{named, IsOverInputs}
 use Rattle.net_core.specs.declared.places.Entry.{Entry}
 use Rattle.net_core.specs.declared.table.CoverTable.{CoverTable}
 use Rattle.net_work.specs.Placed.{Placed, circuit_of, table_at}
+use Rattle.net_work.proofs.Indexed.{all_at}
 use Rattle.alg_tables.specs.Dividing.{divided, cover_table}
 use Rattle.alg_tables.proofs.CoverTables.{cover_table_once}
 use Rattle.alg_tables.proofs.Divisions.{divided_once}
@@ -22,7 +23,6 @@ use Rattle.circuit_laws.proofs.Names.{has_not}
 use Rattle.std.proofs.lemmas.Bool.{false≢true}
 use Rattle.net_savings.specs.Saving.{IsLoss}
 use Rattle.net_savings.proofs.Losing.{wide_loss, narrow_loss}
-use Rattle.net_savings.proofs.Slots.{all_at}
 use Rattle.sis_base.specs.declared.limits.TheConstants.{MAX_INPUTS}
 
 module _ {R : Type 0} (name : List ℕ) (cover : NamedCover) (table : CoverTable R) where

@@ -7,10 +7,11 @@ use Rattle.net_candidates.specs.Extracting.{IsListable}
 use Rattle.net_candidates.specs.declared.rule.Rule.{Rule}
 use Rattle.cover_names.specs.Literals.{NamedCover}
 use Rattle.net_work.specs.Placed.{Placed, standing, circuit_of, table_at}
+use Rattle.net_work.proofs.Indexed.{all_at}
 use Rattle.net_savings.specs.Listing.{AreOwn, IsManyIn, IsUnlisted, told}
 use Rattle.net_savings.specs.declared.fault.SavingsFault.{SavingsFault}
 use Rattle.net_savings.specs.declared.fault.SavingsFault.TheVariants.{ManyKernels, Memory}
-use Rattle.net_savings.proofs.Slots.{all_at, standing_around, standing_next}
+use Rattle.net_savings.proofs.Slots.{standing_around, standing_next}
 
 -- all tables before an index can be listed
 abbrev pub AreListable : Rule → List (Option Table) → ℕ → Type 0

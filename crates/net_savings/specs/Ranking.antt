@@ -4,10 +4,9 @@
 -- equal ones is the project's own.
 use Rattle.std.specs.Prelude.{ℕ, ◌==◌, Option, Some, None, List, [], bytes_eq, unwrap_or, if◌then◌else◌}
 use Rattle.std.specs.Map.{lookup}
-use Rattle.std.specs.Ordering.{nat_cmp}
-use Rattle.std.specs.declared.cmp.Ordering.{Ordering}
 use Rattle.std.specs.declared.cmp.Reverse.{Reverse}
 use Rattle.cover_names.specs.Literals.{NamedCover}
+use Rattle.net_queue.specs.Greatest.{reversed}
 use Rattle.net_queue.specs.Queue as queue
 use Rattle.net_savings.specs.Orders.{cover_eq}
 
@@ -35,11 +34,7 @@ covers_under known name = listed (lookup (bytes_eq name) known.lists)
 
 -- covers that save a literal or more have a rank
 abbrev pub rank_of : NamedCover → ℕ → Option (Reverse ℕ)
-rank_of cover saving = if saving == 0 then None else Some (record { 0 = saving })
+rank_of cover saving = if saving == 0 then None else Some (reversed saving)
 
 abbrev pub rank_in : KnownCovers → NamedCover → Option (Reverse ℕ)
 rank_in known cover = queue.rank_in cover_eq rank_of known.savings cover
-
--- the greatest saving first
-abbrev pub greatest_first : Reverse ℕ → Reverse ℕ → Ordering
-greatest_first one other = nat_cmp other.0 one.0

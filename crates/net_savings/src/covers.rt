@@ -7,10 +7,11 @@
 
 ghost use Rattle.std.specs.Prelude.{◌≡◌, ◌&&◌, ◌++◌, ◌∷◌, [], ℕ, List, Some, None, filter, length, bytes_eq, is_none, if◌then◌else◌, IfOk, OnOk};
 ghost use Rattle.cover_names.specs.Literals.{NamedCover, cover_cmp};
+ghost use Rattle.net_queue.specs.Greatest.{greatest_cmp};
 ghost use Rattle.net_queue.specs.Queue.{AreRanked};
 ghost use Rattle.net_savings.specs.Meeting.{is_met};
 ghost use Rattle.net_savings.specs.Orders.{cover_eq};
-ghost use Rattle.net_savings.specs.Ranking.{saving_in, covers_under, rank_in, greatest_first};
+ghost use Rattle.net_savings.specs.Ranking.{saving_in, covers_under, rank_in};
 
 use crate::marks::RowMarks;
 use crate::named::{list_new, met_of};
@@ -104,7 +105,7 @@ impl RankedCovers {
     /// The covers that save a literal or more: the one that saves most first, and of those that
     /// save as much the first in the order of covers.
     pub(crate) fn ranking(&self) -> &BTreeSet<(Reverse<u128>, OrderedCover)>
-        ensures { AreRanked greatest_first cover_cmp (rank_in self.now) result.now.keys }
+        ensures { AreRanked greatest_cmp cover_cmp (rank_in self.now) result.now.keys }
     {
         self.savings.order()
     }

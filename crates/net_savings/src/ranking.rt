@@ -15,17 +15,14 @@ pub(crate) struct BySaving;
 
 impl Ranking<OrderedCover, u128, Reverse<u128>> for BySaving {
     ghost use Rattle.cover_names.proofs.Orders.{cover_order};
+    ghost use Rattle.net_queue.specs.Greatest.{greatest_exact};
     ghost use Rattle.net_savings.specs.Ranking.{rank_of};
-    ghost use Rattle.std.specs.Prelude.{ℕ};
-    ghost use Rattle.std.proofs.lemmas.Map.Lookups.{exact_unsigned};
-    ghost use mathlib.Core.Path.{sym, ap};
 
     ghost rank_of = { rank_of };
 
     ghost keys_exact = { cover_order.same };
 
-    ghost ranks_exact = { λ one other same. ap (λ (saving : ℕ). record { 0 = saving })
-        (sym (exact_unsigned other.0 one.0 same)) };
+    ghost ranks_exact = { greatest_exact };
 
     fn rank(_cover: &OrderedCover, saving: u128) -> Option<Reverse<u128>> {
         if saving == 0 {

@@ -1,14 +1,14 @@
-use Rattle.std.proofs.Common.{◌≡◌, ◌≤◌, List, ℕ, [], ◌∷◌, ◌++◌, map, sym, ap, ◌∙◌, subst}
+use Rattle.std.proofs.Common.{◌≤◌, List, ℕ, [], sym, ◌∙◌, subst}
 use Rattle.std.specs.Map.Iter.{deref}
-use Rattle.std.specs.declared.cmp.Reverse.{Reverse}
-use Rattle.std.proofs.lemmas.Map.Iter.{rest_more, rest_so_far, iter_end}
+use Rattle.std.proofs.lemmas.Map.Iter.{iter_end}
 use Rattle.net_candidates.specs.Candidates.{IsCandidate, literals_in}
 use Rattle.net_candidates.specs.Extracting.{IsNext}
 use Rattle.net_work.specs.Placed.{standing, circuit_of}
 use Rattle.cover_names.specs.Literals.{NamedCover}
 use Rattle.cover_names.proofs.Orders.{cover_order}
-use Rattle.net_queue.proofs.Best.{turn_best, end_none}
-use Rattle.net_savings.proofs.Best.{IsBestOf, savings_total, best_told, none_saves}
+use Rattle.net_queue.specs.Greatest.{greatest_total}
+use Rattle.net_queue.proofs.Best.{order_split, turn_best, end_none}
+use Rattle.net_savings.proofs.Best.{IsBestOf, best_told, none_saves}
 use Rattle.net_savings.specs.Ranking.{saving_in, covers_under, rank_in}
 use Rattle.net_savings.specs.Meeting.{is_met}
 use Rattle.net_savings.specs.Savings.{AreNotes}
@@ -25,12 +25,11 @@ notes g c =
 
 best : (g : _) (c : In-Some g) → IsBestOf c.args.kept.now.ranked (IsCandidate c.args.rule (standing c.args.work.now.slots)) c.in-Some.ranked.now.1
 best g c =
-    let split : c.ranking-ranked-items.result.now.keys ≡ map deref c.loop-ranked.yielded ++ c.in-Some.ranked.now ∷ c.next.new.self =
-    sym c.into_iter-ranked-iterator.ensures.into_iter_gives.0
-    ∙ rest_so_far deref c.loop-ranked.yielded c.into_iter-ranked-iterator.result c.loop-ranked.ranked-iterator c.loop-ranked.yielded_by
-    ∙ ap (λ (rest : List (Reverse ℕ × NamedCover)). map deref c.loop-ranked.yielded ++ rest) (rest_more deref c.loop-ranked.ranked-iterator c.next.new.self c.next.result c.in-Some.ranked c.in-Some.is c.next.ensures.steps) in
+    let split =
+    order_split c.ranking-ranked-items.result.now.keys c.into_iter-ranked-iterator.result c.loop-ranked.ranked-iterator c.next.new.self c.loop-ranked.yielded c.next.result c.in-Some.ranked
+    c.into_iter-ranked-iterator.ensures.into_iter_gives.0 c.loop-ranked.yielded_by c.in-Some.is c.next.ensures.steps in
     best_told c.args.kept.now.ranked (IsCandidate c.args.rule (standing c.args.work.now.slots)) c.in-Some.ranked.now.1
-    (turn_best savings_total cover_order.total (rank_in c.args.kept.now.ranked) (IsCandidate c.args.rule (standing c.args.work.now.slots)) c.ranking-ranked-items.result.now.keys c.ranking-ranked-items.ensures c.loop-ranked.yielded
+    (turn_best greatest_total cover_order.total (rank_in c.args.kept.now.ranked) (IsCandidate c.args.rule (standing c.args.work.now.slots)) c.ranking-ranked-items.result.now.keys c.ranking-ranked-items.ensures c.loop-ranked.yielded
     c.in-Some.ranked.now c.next.new.self split c.loop-ranked.invariant)
 
 pub is_candidate-requires-clause-some : goal.is_candidate-requires-clause-some
@@ -55,5 +54,5 @@ returns g c =
     c.into_iter-ranked-iterator.ensures.into_iter_gives.0 c.loop-ranked.yielded_by c.in-None.is c.next.ensures.steps in
     none_first c.args.rule c.args.work.now c.args.name.now c.requires.sound c.requires.free c.args.kept.now.ranked c.args.kept.now.own.items (is_met c.args.kept.now.changed.items) (notes g (goal.at.returns g c).After-into_iter-ranked-iterator)
     (none_saves c.args.kept.now.ranked (IsCandidate c.args.rule (standing c.args.work.now.slots))
-    (end_none savings_total cover_order.total (rank_in c.args.kept.now.ranked) (IsCandidate c.args.rule (standing c.args.work.now.slots)) c.ranking-ranked-items.result.now.keys c.ranking-ranked-items.ensures c.loop-ranked.yielded (sym whole.0)
+    (end_none greatest_total cover_order.total (rank_in c.args.kept.now.ranked) (IsCandidate c.args.rule (standing c.args.work.now.slots)) c.ranking-ranked-items.result.now.keys c.ranking-ranked-items.ensures c.loop-ranked.yielded (sym whole.0)
     c.loop-ranked.invariant))
