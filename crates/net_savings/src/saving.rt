@@ -5,8 +5,8 @@
 //! Optimization System" (1987): the value of a divisor is the literals that it saves. A table can
 //! be divided only if it reads all names of the cover, so only fanouts of one of them, the one with
 //! the fewest, are looked at, and divided only if their rows do not tell what they lose
-//! (`by_rows`). Callers rely on `IsSaved`: the exact number, and none exactly if
-//! nothing is saved or a table would have more than `MAX_INPUTS` inputs.
+//! (`by_rows`). Callers rely on `IsSaved`: the exact number, and none exactly if nothing is saved or
+//! a table would have more than `MAX_INPUTS` inputs.
 
 ghost use Rattle.std.specs.Prelude.{◌≡◌, ℕ, ◌+◌, ◌-◌, ◌≤◌, ◌<◌, ltb, ◌&&◌, ◌⊎◌, true, false, Option, Some, List, length, IfOk, IfSome, MatchOption};
 ghost use Rattle.std.specs.List.Sorted.{IsStrictlyIncreasing};
@@ -118,34 +118,6 @@ fn is_wide<R: Row>(table: &CoverTable<R>, name: &Name) -> bool
     MAX_INPUTS < table.inputs.len() && has_name(table.inputs.as_slice(), name)
 }
 
-// The number of literals that a table loses if it is divided by a cover, which is divided for it;
-// none if it would have too many inputs.
-fn loss_by_division<R: Row>(
-    alloc: Global,
-    table: &CoverTable<R>,
-    name: &Name,
-    cover: &[Cube],
-) -> Result<Option<u128>, AllocError>
-    requires over { IsOverInputs table.now }
-    requires once { all_different table.now.inputs ≡ true }
-    requires free { has table.now.inputs name.now ≡ false }
-    ensures { IfOk result (λ loss. (output : List ℕ)
-        → IsLoss name.now cover.now (Some (named output table.now)) loss) }
-{
-    // by this call the rows are known to have the cover's width
-    let _of_one_width = table.cover.rows();
-    match divided_table(alloc, table, name, true, cover)? {
-        None => Ok(Some(0)),
-        Some(made) => {
-            if is_wide(&made, name) {
-                Ok(None)
-            } else {
-                Ok(Some(literal_count(table).saturating_sub(literal_count(&made))))
-            }
-        }
-    }
-}
-
 // The number of literals that a table loses by a cover of one cube, if its rows tell it.
 fn loss_by_one<R: Row>(
     alloc: Global,
@@ -181,9 +153,20 @@ pub(crate) fn loss_of<R: Row>(
     if lacks_cube(alloc, table, cover)? {
         return Ok(Some(0));
     }
-    match loss_by_one(alloc, table, cover)? {
-        Some(lost) => Ok(Some(lost)),
-        None => loss_by_division(alloc, table, name, cover),
+    if let Some(lost) = loss_by_one(alloc, table, cover)? {
+        return Ok(Some(lost));
+    }
+    // by this call the rows are known to have the cover's width
+    let _of_one_width = table.cover.rows();
+    match divided_table(alloc, table, name, true, cover)? {
+        None => Ok(Some(0)),
+        Some(made) => {
+            if is_wide(&made, name) {
+                Ok(None)
+            } else {
+                Ok(Some(literal_count(table).saturating_sub(literal_count(&made))))
+            }
+        }
     }
 }
 
