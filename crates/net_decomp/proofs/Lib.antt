@@ -12,3 +12,7 @@ pub mod PartedSteps
 pub mod Ends
 pub mod Counts
 pub mod Bounded
+pub mod TidyRows
+pub mod SumSteps
+pub mod Summing
+pub mod Singles

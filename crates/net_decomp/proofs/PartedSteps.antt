@@ -24,7 +24,8 @@ use Rattle.circuit_laws.proofs.Changes.{each_extended, extended_through, reached
 use Rattle.circuit_laws.proofs.Mapped.{outputs_different, live_reads}
 use Rattle.net_core.specs.Tables.{characters_of, HasCharacters}
 use Rattle.net_core.proofs.Rows.{all_places_back, width_of_characters}
-use Rattle.circuit_tables.proofs.Tidied.{tidied_value, tidied_output, tidied_reads, tidied_once, tidied_shaped}
+use Rattle.circuit_tables.specs.Tidy.{is_tidy}
+use Rattle.circuit_tables.proofs.Tidied.{tidied_value, tidied_output, tidied_reads, tidied_once, tidied_shaped, tidied_tidy}
 use Rattle.net_decomp.specs.Partings.{Parting, rows_of, part_table, parted_table}
 use Rattle.net_decomp.specs.Decomposed.{IsNext, IsStep, IsReached, AllDone, IsDecomposed}
 use Rattle.net_decomp.specs.declared.rule.Rule.{Rule}
@@ -56,6 +57,10 @@ parted_wide table names rows wide =
 pub parted_shaped : (table : Table) (names : List (List ℕ)) (rows : List (List (Option Bool))) → HasWidth (length table.inputs + length names) rows → IsShaped (parted_table table names rows)
 unfolding parted_table
 parted_shaped table names rows wide = tidied_shaped (over_names table names rows) (parted_wide table names rows wide)
+
+pub parted_tidy : (table : Table) (names : List (List ℕ)) (rows : List (List (Option Bool))) → HasWidth (length table.inputs + length names) rows → is_tidy (parted_table table names rows) ≡ true
+unfolding parted_table
+parted_tidy table names rows wide = tidied_tidy (over_names table names rows) (parted_wide table names rows wide)
 
 pub parted_table_value : (table : Table) (names : List (List ℕ)) (rows : List (List (Option Bool))) (value : List ℕ → Bool)
     → driven_value (Some (parted_table table names rows)) value ≡ phase_value table.phase (some_matches rows (map value table.inputs ++ map value names))

@@ -44,7 +44,7 @@ put_begin inputs now = record {
 abbrev pub tidy_part : List (List ℕ) → List (List (Option Bool)) → List ℕ → Table
 tidy_part inputs part name = tidied (record { inputs = inputs; output = name; rows = map characters_of part; phase = true })
 
-last_circuit : (now : Placed) (table : Table) → circuit_of (with_last now table) ≡ with_added (circuit_of now) table
+pub last_circuit : (now : Placed) (table : Table) → circuit_of (with_last now table) ≡ with_added (circuit_of now) table
 unfolding with_added
 last_circuit now table = ap (λ (tables : List Table). with_tables now.frame tables) (standing_push now.slots table)
 

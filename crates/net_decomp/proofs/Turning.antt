@@ -3,6 +3,7 @@ use Rattle.std.proofs.Common.{◌≡◌, ℕ, ◌+◌, ◌-◌, ◌*◌, ◌<◌
 use Rattle.std.specs.List.{AllByRecursion}
 use Rattle.std.proofs.lemmas.Bool.{lt-ltb, le-ltb, cases_lt}
 use Rattle.std.proofs.lemmas.List.{length-map, nil_from_length}
+use Rattle.std.proofs.lemmas.Option.{same_Some}
 use Rattle.sis_base.specs.Rows.{HasWidth}
 use Rattle.circuit_model.specs.Names.{all_different}
 use Rattle.circuit_model.specs.Values.{driver}
@@ -12,6 +13,7 @@ use Rattle.circuit_model.specs.declared.circuit.Circuit.{Circuit}
 use Rattle.circuit_laws.specs.Edits.{with_tables, with_replaced}
 use Rattle.circuit_laws.proofs.Sound.{all_append}
 use Rattle.circuit_laws.proofs.Mapped.{outputs_different}
+use Rattle.circuit_tables.specs.Tidy.{is_tidy}
 use Rattle.net_core.specs.Fresh.{node_count}
 use Rattle.net_core.specs.Reads.{IsBounded}
 use Rattle.net_core.specs.Tables.{places_of}
@@ -20,12 +22,12 @@ use Rattle.net_decomp.specs.Rules.{IsDecomposable}
 use Rattle.net_decomp.specs.declared.rule.Rule.{Rule}
 use Rattle.net_decomp.proofs.Values.{due_keeps}
 use Rattle.net_decomp.proofs.Adding.{driver_among, parts_hold}
-use Rattle.net_decomp.proofs.PartedSteps.{parted_output}
+use Rattle.net_decomp.proofs.PartedSteps.{parted_output, parted_tidy}
 use Rattle.net_decomp.proofs.Bounded.{replaced_nodes, parted_within, with_replaced_all}
 use Rattle.net_work.specs.Placed.{Placed, standing, circuit_of, table_at}
 use Rattle.net_decomp.specs.Cursor.{ArePut, IsTurned, IsPartedAt, HasRoomFor, row_count, weight}
 use Rattle.net_decomp.proofs.Slots.{standing_behind, table_before, table_within, table_set, table_other, among, standing_set}
-use Rattle.net_decomp.proofs.Putting.{put_nodes}
+use Rattle.net_decomp.proofs.Putting.{put_nodes, put_names}
 use Rattle.net_decomp.proofs.Falling.{due_falls}
 use Rattle.sis_base.specs.declared.limits.TheConstants.{MAX_NODES}
 
@@ -161,6 +163,11 @@ turned_parted rule table parting place before now turned sound there wide due ro
         ∙ table_other turned.between.slots place at (parted_table table turned.names parting.rows) below
         ∙ ap (λ (slots : List (Option Table)). table_at slots at) turned.put.slots
         ∙ table_before before.slots (map Some turned.put.more) at (let within : place < length before.slots = table_within before.slots place table there in omega (arith, within, below));
+    tidy = λ left here.
+        subst (λ (t : Table). is_tidy t ≡ true) (same_Some (parted_table table turned.names parting.rows) left (sym (turned_at table parting place before now turned there) ∙ here))
+        (parted_tidy table turned.names parting.rows
+        (subst (λ (n : ℕ). HasWidth (length table.inputs + n) parting.rows) (sym (put_names table.inputs parting.parts turned.names before turned.between turned.put))
+        (due_keeps rule table parting wide due).wide));
     bounded = λ all.
         subst (λ (c : Circuit). AllByRecursion IsBounded c.tables) (sym (turned_circuit rule table parting place before now turned sound there wide due))
         (with_replaced_all IsBounded (circuit_of turned.between) (parted_table table turned.names parting.rows)

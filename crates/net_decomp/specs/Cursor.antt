@@ -2,11 +2,12 @@
 -- decomposed until it is done. No public clause needs these definitions.
 -- Source: De Micheli, "Synthesis and Optimization of Digital Circuits", chapter 8 (a logic network
 -- as a set of nodes, changed one after the other).
-use Rattle.std.specs.Prelude.{◌≡◌, ℕ, ◌+◌, ◌-◌, ◌*◌, ◌<◌, ◌≤◌, ltb, cond, Bool, Option, Some, None, List, ◌++◌, map, length}
+use Rattle.std.specs.Prelude.{◌≡◌, ℕ, ◌+◌, ◌-◌, ◌*◌, ◌<◌, ◌≤◌, ltb, cond, Bool, true, Option, Some, None, List, ◌++◌, map, length}
 use Rattle.std.specs.List.{AllByRecursion}
 use Rattle.sis_base.specs.Rows.{HasWidth}
 use Rattle.circuit_model.specs.Soundness.{IsSound}
 use Rattle.circuit_model.specs.declared.circuit.Table.{Table}
+use Rattle.circuit_tables.specs.Tidy.{is_tidy}
 use Rattle.net_decomp.specs.Partings.{Parting, rows_of, parted_table, ArePartsAdded, IsParted, IsOverfull}
 use Rattle.net_decomp.specs.Rules.{IsDone, IsDecomposable}
 use Rattle.net_decomp.specs.Decomposed.{IsReached}
@@ -66,6 +67,7 @@ pub record IsPartedAt (rule : Rule) (place : ℕ) (before now : Placed) : Type 0
   pub due : IsDecomposable rule table parting
   pub parted : IsParted (circuit_of before) table parting (circuit_of now)
   pub others : (at : ℕ) → at < place → table_at now.slots at ≡ table_at before.slots at
+  pub tidy : (left : Table) → table_at now.slots place ≡ Some left → is_tidy left ≡ true
   pub bounded : AllByRecursion IsBounded (standing before.slots) → AllByRecursion IsBounded (standing now.slots)
   pub fewer : weight place now < weight place before
 

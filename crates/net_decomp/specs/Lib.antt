@@ -4,3 +4,4 @@ pub mod Cursor
 pub mod Partings
 pub mod Rules
 pub mod Decomposed
+pub mod Sums

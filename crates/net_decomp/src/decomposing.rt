@@ -18,6 +18,7 @@ ghost use Rattle.net_decomp.specs.Decompose.{HasDecomposed};
 
 use crate::Rule;
 use crate::stepping::part_once;
+use crate::sums::part_sum;
 use cube_cover::Row;
 use net_core::{AddFault, Network};
 use net_work::WorkingNetwork;
@@ -40,7 +41,7 @@ fn part_until_done<R: Row>(
 {
     let mut count = nodes;
     while let Some(now) = part_once(alloc, work, count, place, rule)? {
-        count = now;
+        count = part_sum(alloc, work, now, place, rule)?;
     }
     Ok(count)
 }
@@ -83,7 +84,8 @@ fn nodes_of<R: Row>(network: &Network<R>) -> u128
 /// done, always the earliest one that is not; parts become tables, which are last, under the least
 /// free names. `NodeLimit` only if a step has parts and with them there would be more than
 /// `MAX_NODES` tables and latches, those of the don't-care part included. `Memory` also if a table
-/// in its normal form would have 2^30 inputs or 2^33 rows; no clause says so.
+/// would have 2^30 inputs or 2^33 rows, in its normal form or, for a sum of single literals, before
+/// it; no clause says so.
 pub fn decompose<R: Row>(
     alloc: Global,
     network: &Network<R>,

@@ -16,6 +16,7 @@ mod parting;
 mod rows;
 mod rule;
 mod stepping;
+mod sums;
 
 pub use decomposing::decompose;
 pub use rule::Rule;

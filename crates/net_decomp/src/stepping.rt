@@ -83,8 +83,8 @@ fn due_at<R: Row>(
     }
 }
 
-// The table of some rows, in normal form.
-fn tidy_table<R: Row>(
+/// The table of some rows, in normal form.
+pub(crate) fn tidy_table<R: Row>(
     alloc: Global,
     inputs: Names,
     rows: Vec<R>,
@@ -144,8 +144,8 @@ fn add_part<R: Row>(
     work.add(alloc, table)
 }
 
-// Appends a name.
-fn push_name(names: &mut Names, name: Name) -> Result<(), AllocError>
+/// Appends a name.
+pub(crate) fn push_name(names: &mut Names, name: Name) -> Result<(), AllocError>
     ensures { OnOk result (names.new ≡ names.old ++ name ∷ []) }
 {
     names.push(name)?;

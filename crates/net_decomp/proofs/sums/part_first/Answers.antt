@@ -1,0 +1,12 @@
+use Rattle.std.proofs.Common.{List, ap, drop, ◌∙◌, arith}
+use Rattle.net_core.specs.Tables.{named}
+use Rattle.net_decomp.specs.declared.sums.Literal.{Literal}
+use Rattle.net_decomp.proofs.Summing.{first_parted}
+use Rattle.net_decomp.proofs.sums.part_first.Goals as goal
+
+pub returns-clause-parted : goal.returns-clause-parted
+returns-clause-parted g c =
+    first_parted c.args.first c.args.most c.args.names.now _ c.args.literals.now.items c.split_at.result.1.now c.split_at-2.result.0.now _ c.args.work.now _ c.in_ok-name.name
+    (λ name. named name c.in_ok-part.part) (c.split_at.ensures.back ∙ ap (λ (list : List Literal). drop c.args.first list) c.as_slice.ensures.value) c.split_at-2.ensures.front c.in_ok-part.ensures.tidy
+    c.in_ok-part.ensures.bounded c.in_ok-name.ensures c.in_ok-push_signal.ensures.names c.in_ok-push_signal.ensures.literals
+    (omega (arith, c.in_ok-check_bounds.ensures.0, c.len.ensures), omega (arith, c.in_ok-check_bounds.ensures.1, c.len-2.ensures, c.args.literals.now.ok.0))

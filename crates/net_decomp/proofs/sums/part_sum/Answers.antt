@@ -1,0 +1,8 @@
+use Rattle.net_decomp.proofs.Along.{along_begin}
+use Rattle.net_decomp.proofs.sums.part_sum.Goals as goal
+
+pub returns-in-None-clause-along : goal.returns-in-None-clause-along
+returns-in-None-clause-along g c = along_begin c.args.rule c.args.place c.args.work.now c.requires.sound c.requires.done
+
+pub part_literals-requires-clause-sum : goal.part_literals-requires-clause-sum
+part_literals-requires-clause-sum g c = rw c.in-Some.is at c.in_ok-sum_at.ensures
