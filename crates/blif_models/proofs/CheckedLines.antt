@@ -101,11 +101,6 @@ pub model_passes : (library : Option (List Gate)) (earlier : List (List ℕ)) (m
 unfolding take_entries
 model_passes library earlier model last took = sym (checked_fault library earlier [] model no_lines refl) ∙ ap result_err took
 
--- the same fault of another answer
-pub same_checks : (A B : Type 0) (fault : ReadFault) (found : Option BlifFault) → Checks {A = A} (Err fault) found → Checks {A = B} (Err fault) found
-same_checks A B (Fault fault) found h = h
-same_checks A B Memory found h = tt
-
 -- the first of two faults
 pub first_checks : (A B : Type 0) (fault : ReadFault) (one other whole : Option BlifFault) → whole ≡ option_or one other → Checks {A = A} (Err fault) one → Checks {A = B} (Err fault) whole
 first_checks A B (Fault fault) one other whole is here = is ∙ ap (λ found. option_or found other) here

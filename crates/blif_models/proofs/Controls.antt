@@ -1,6 +1,6 @@
 -- The signals after which a control is named, as a set: which names it has, and that nothing else
 -- counts.
-use Rattle.std.proofs.Common.{◌≡◌, ℕ, ◌+◌, ◌<◌, Bool, true, false, not, ◌||◌, if◌then◌else◌, Option, Some, None, List, [], ◌∷◌, ◌++◌, length, get_or, take, bytes_eq, codes, refl, sym, ap, ◌∙◌}
+use Rattle.std.proofs.Common.{◌≡◌, ℕ, ◌+◌, ◌<◌, Bool, true, false, not, ◌||◌, if◌then◌else◌, Option, Some, List, [], ◌∷◌, ◌++◌, length, get_or, take, bytes_eq, codes, refl, sym, ap, ◌∙◌}
 use Rattle.std.specs.Borrow.{Bor}
 use Rattle.std.specs.Option.{option_to_list}
 use Rattle.std.proofs.lemmas.List.{take_more, map-append, append-nil}
@@ -29,10 +29,6 @@ or_assoc false b c = refl
 
 pub adds_nothing : (old : List (List ℕ)) → Adds old old []
 adds_nothing old name = or_false (has old name)
-
-pub adds_none : (old names : List (List ℕ)) (driven : Option (List ℕ)) → driven ≡ None → option_to_list driven ≡ names → Adds old old names
-adds_none old names driven none is name =
-    or_false (has old name) ∙ ap (λ (some : List (List ℕ)). has old name || has some name) (sym (ap (λ (o : Option (List ℕ)). option_to_list o) none) ∙ is)
 
 pub adds_one : (old new : List (List ℕ)) (one : List ℕ) → new ≡ with_name old one → Adds old new (one ∷ [])
 adds_one old new one is name =

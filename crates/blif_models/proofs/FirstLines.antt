@@ -1,5 +1,5 @@
 -- The lines that are added to the first model.
-use Rattle.std.proofs.Common.{◌≡◌, ℕ, suc, ◌+◌, ◌-◌, ◌<◌, ◌≤◌, Bool, true, false, not, if◌then◌else◌, Result, Ok, subst, Option, List, [], ◌∷◌, ◌++◌, length, get_or, slice_index_or, map, flat_map, codes, refl, sym, ap, ◌∙◌, append_assoc, arith}
+use Rattle.std.proofs.Common.{◌≡◌, ℕ, suc, ◌+◌, ◌-◌, ◌<◌, ◌≤◌, Bool, true, false, not, if◌then◌else◌, Result, Ok, subst, Option, List, [], ◌∷◌, ◌++◌, length, get_or, slice_index_or, map, flat_map, refl, sym, ap, ◌∙◌, append_assoc, arith}
 use Rattle.std.specs.List.{filter, range_with_len}
 use Rattle.std.proofs.lemmas.List.{get_or-map, length-map, append-nil}
 use Rattle.std.proofs.lemmas.List.FromFn.{get_or-map-range_with_len, length-range_with_len}
@@ -8,15 +8,19 @@ use Rattle.circuit_tables.specs.Folding.{each_once}
 use Rattle.circuit_tables.proofs.Once.{different-each_once, each_once-different}
 use Rattle.sis_text.specs.Entries.{Entry}
 use Rattle.genlib_format.specs.declared.gate.Gate.{Gate as TheGate}
-use Rattle.blif_lines.specs.Reader.{model_lines, clocks_in, lists_inputs, lists_outputs, names_beside}
+use Rattle.blif_lines.specs.Reader.{model_lines, clocks_in, names_beside}
 use Rattle.blif_models.specs.Models.{model_graph, is_used, used_models, body_of}
-use Rattle.blif_models.specs.Ports.{ports_at, ports_with, drives_with, reads_with}
+use Rattle.blif_models.specs.Ports.{ports_at, ports_with}
 use Rattle.blif_models.specs.PortTables.{once_ports, table_at}
 use Rattle.blif_lines.specs.declared.fault.ReadFault.{ReadFault}
 use Rattle.blif_lines.specs.declared.draft.Draft.{Draft}
 use Rattle.blif_lines.specs.Steps.{take_entries, Takes}
 use Rattle.blif_models.specs.Flat.{added}
-use Rattle.blif_models.specs.FirstModel.{MarksUsed, clocks_at, clocks_from, port_line}
+use Rattle.blif_models.specs.FirstModel.{MarksUsed, clocks_at, clocks_from, port_line, port_word, side_line}
+use Rattle.blif_models.specs.Sides.{other_side, ports_on, signals_with, lists_on}
+use Rattle.blif_models.specs.declared.side.Side.{Side}
+use Rattle.blif_models.specs.declared.side.Side.TheVariants as side
+use Rattle.blif_models.proofs.PortSets.{side_found}
 use Rattle.blif_models.specs.declared.limits.TheConstants.{MAX_DEPTH}
 use Rattle.blif_models.specs.declared.ports.Ports.{Ports}
 
@@ -88,34 +92,24 @@ beside_twice others names = each_once-different (each_once kept) (different-each
 found_once : (own others names : List (List ℕ)) → own ≡ names_beside others names → each_once own ≡ own
 found_once own others names is = ap each_once is ∙ beside_twice others names ∙ sym is
 
+on_once : (place : Side) (ports : Ports) → ports_on place (once_ports ports) ≡ each_once (ports_on place ports)
+on_once side.Inputs ports = refl
+on_once side.Outputs ports = refl
+
 -- ports that no line lists are found once
 module _ (library : Option (List TheGate)) (models : List (List Entry)) (lines : List Entry) where
   below : List ℕ → Ports
   below = λ name. ports_at library models MAX_DEPTH (body_of models name)
 
-  inputs_found : lists_inputs lines ≡ false
-      → (ports_at library models (MAX_DEPTH + 1) lines).inputs ≡ names_beside (flat_map (drives_with library below) lines) (flat_map (reads_with library below) lines)
-  unfolding ports_at ports_with below
-  inputs_found e = rw e refl
-
-  outputs_found : lists_outputs lines ≡ false
-      → (ports_at library models (MAX_DEPTH + 1) lines).outputs ≡ names_beside (flat_map (reads_with library below) lines) (flat_map (drives_with library below) lines)
-  unfolding ports_at ports_with below
-  outputs_found e = rw e refl
-
-  found_inputs : (listed : Bool) → lists_inputs lines ≡ listed
-      → port_line listed (codes ".inputs") (once_ports (ports_at library models (MAX_DEPTH + 1) lines)).inputs ≡ port_line listed (codes ".inputs") (ports_at library models (MAX_DEPTH + 1) lines).inputs
-  found_inputs true e = refl
-  found_inputs false e =
-      ap (λ (names : List (List ℕ)). port_line false (codes ".inputs") names)
-      (found_once (ports_at library models (MAX_DEPTH + 1) lines).inputs (flat_map (drives_with library below) lines) (flat_map (reads_with library below) lines) (inputs_found e))
-
-  found_outputs : (listed : Bool) → lists_outputs lines ≡ listed
-      → port_line listed (codes ".outputs") (once_ports (ports_at library models (MAX_DEPTH + 1) lines)).outputs ≡ port_line listed (codes ".outputs") (ports_at library models (MAX_DEPTH + 1) lines).outputs
-  found_outputs true e = refl
-  found_outputs false e =
-      ap (λ (names : List (List ℕ)). port_line false (codes ".outputs") names)
-      (found_once (ports_at library models (MAX_DEPTH + 1) lines).outputs (flat_map (reads_with library below) lines) (flat_map (drives_with library below) lines) (outputs_found e))
+  found_on : (place : Side) (listed : Bool) → lists_on place lines ≡ listed
+      → port_line listed (port_word place) (ports_on place (once_ports (ports_at library models (MAX_DEPTH + 1) lines)))
+      ≡ port_line listed (port_word place) (ports_on place (ports_at library models (MAX_DEPTH + 1) lines))
+  unfolding ports_at below
+  found_on place true e = refl
+  found_on place false e =
+      ap (λ (names : List (List ℕ)). port_line false (port_word place) names)
+      (on_once place (ports_with library below lines)
+      ∙ found_once (ports_on place (ports_with library below lines)) (flat_map (signals_with (other_side place) library below) lines) (flat_map (signals_with place library below) lines) (side_found place library below lines e))
 
 -- the ports of the first model in a table
 pub first_ports : (library : Option (List TheGate)) (models : List (List Entry)) (table : List Ports) (d : Ports) → table ≡ table_at library models (MAX_DEPTH + 1) → 0 < length models
@@ -133,21 +127,13 @@ some_ports library models table made some =
 
 -- a line of ports as it is added
 module _ (library : Option (List TheGate)) (models : List (List Entry)) (lines : List Entry) (ports : Ports) (is_once : ports ≡ once_ports (ports_at library models (MAX_DEPTH + 1) lines)) where
-  pub inputs_line : (listed : Bool) (word : List ℕ) (names : List (List ℕ)) → listed ≡ lists_inputs lines → word ≡ codes ".inputs" → names ≡ ports.inputs
-      → port_line listed word names ≡ port_line (lists_inputs lines) (codes ".inputs") (ports_at library models (MAX_DEPTH + 1) lines).inputs
-  inputs_line listed word names is first same =
+  pub line_on : (place : Side) (listed : Bool) (word : List ℕ) (names : List (List ℕ)) → listed ≡ lists_on place lines → word ≡ port_word place → names ≡ ports_on place ports
+      → port_line listed word names ≡ side_line place library models lines
+  line_on place listed word names is first same =
       ap (λ (b : Bool). port_line b word names) is
-      ∙ ap (λ (one : List ℕ). port_line (lists_inputs lines) one names) first
-      ∙ ap (port_line (lists_inputs lines) (codes ".inputs")) (same ∙ ap (λ (p : Ports). p.inputs) is_once)
-      ∙ found_inputs library models lines (lists_inputs lines) refl
-
-  pub outputs_line : (listed : Bool) (word : List ℕ) (names : List (List ℕ)) → listed ≡ lists_outputs lines → word ≡ codes ".outputs" → names ≡ ports.outputs
-      → port_line listed word names ≡ port_line (lists_outputs lines) (codes ".outputs") (ports_at library models (MAX_DEPTH + 1) lines).outputs
-  outputs_line listed word names is first same =
-      ap (λ (b : Bool). port_line b word names) is
-      ∙ ap (λ (one : List ℕ). port_line (lists_outputs lines) one names) first
-      ∙ ap (port_line (lists_outputs lines) (codes ".outputs")) (same ∙ ap (λ (p : Ports). p.outputs) is_once)
-      ∙ found_outputs library models lines (lists_outputs lines) refl
+      ∙ ap (λ (one : List ℕ). port_line (lists_on place lines) one names) first
+      ∙ ap (port_line (lists_on place lines) (port_word place)) (same ∙ ap (ports_on place) is_once)
+      ∙ found_on library models lines place (lists_on place lines) refl
 
 -- the clocks of a model
 pub clocks_true : (models : List (List Entry)) (place : ℕ) → is_used (model_graph models) place ≡ true → clocks_at models place ≡ clocks_in (model_lines (slice_index_or models place []))

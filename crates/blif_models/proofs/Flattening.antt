@@ -1,5 +1,5 @@
 -- The lines of a model, item by item.
-use Rattle.std.proofs.Common.{◌≡◌, ℕ, zero, suc, ◌+◌, ◌-◌, ◌<◌, ◌≤◌, ◌==◌, Bool, true, false, if◌then◌else◌, Option, List, [], ◌∷◌, ◌++◌, length, get_or, drop, map, refl, sym, ap, ◌∙◌, append_assoc, arith}
+use Rattle.std.proofs.Common.{◌≡◌, ℕ, zero, suc, ◌+◌, ◌-◌, ◌<◌, ◌≤◌, Bool, true, false, if◌then◌else◌, Option, List, [], ◌∷◌, ◌++◌, length, get_or, drop, map, refl, sym, ap, ◌∙◌, append_assoc, arith}
 use Rattle.std.proofs.lemmas.List.{drop_all, append-nil}
 use Rattle.std.specs.List.{drop-map}
 use Rattle.circuit_checks.specs.Sets.{Alike}
@@ -9,7 +9,7 @@ use Rattle.sis_text.specs.Entries.{Entry, entry_at}
 use Rattle.genlib_format.specs.declared.gate.Gate.{Gate as TheGate}
 use Rattle.blif_lines.specs.Reader.{drives_in}
 use Rattle.blif_models.specs.Files.{lines_at}
-use Rattle.blif_models.specs.Models.{is_instance, model_of, pairs_of, body_of, size_of}
+use Rattle.blif_models.specs.Models.{is_instance, model_of, pairs_of}
 use Rattle.blif_models.specs.Ports.{ports_of}
 use Rattle.blif_models.specs.Flat.{Instance, path_word, lines_outside, numbered, from_instances, flat_lines}
 use Rattle.blif_models.specs.Tables.{HoldsFor, put_lines, item_lines, place_after, lines_from}
@@ -83,17 +83,6 @@ module _ (library : Option (List TheGate)) (models : List (List Entry)) where
 
   pub flat_whole : (lines : List Entry) → lines_from library models MAX_DEPTH 0 lines ≡ flat_lines library models (MAX_DEPTH + 1) lines
   flat_whole lines = sym (flat_from MAX_DEPTH lines)
-
-  -- what a line adds
-  pub item_other : (depth place : ℕ) (line : Entry) → is_instance line ≡ false → item_lines library models depth place line ≡ line ∷ []
-  item_other depth place line e = rw e refl
-
-  pub item_none : (depth place : ℕ) (line : Entry) → is_instance line ≡ true → (size_of models (model_of line) == 0) ≡ true → item_lines library models depth place line ≡ []
-  item_none depth place line e size = rw (e, size) refl
-
-  pub item_put : (depth place : ℕ) (line : Entry) (body : List Entry) → is_instance line ≡ true → (size_of models (model_of line) == 0) ≡ false → body ≡ body_of models (model_of line)
-      → item_lines library models depth place line ≡ put_lines library models place line (flat_lines library models depth body)
-  item_put depth place line body e size is = rw (e, size, is) refl
 
   -- the lines of an instance, with a set of the signals after which a control is named
   pub put_by : (instance : Instance) (place : ℕ) (line : Entry) (inner : List Entry) (set inputs : List (List ℕ))

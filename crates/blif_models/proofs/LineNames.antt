@@ -1,7 +1,7 @@
 -- The names of lines, line by line.
-use Rattle.std.proofs.Common.{◌≡◌, ℕ, ◌+◌, ◌<◌, Bool, true, false, not, if◌then◌else◌, List, [], ◌∷◌, ◌++◌, length, get_or, take, drop, flat_map, refl, sym, ap, ◌∙◌, append_assoc}
-use Rattle.std.specs.List.{filter, drop-map}
-use Rattle.std.proofs.lemmas.List.{take_more, map-append, append-nil, length-map}
+use Rattle.std.proofs.Common.{◌≡◌, ℕ, ◌+◌, ◌<◌, Bool, true, false, not, if◌then◌else◌, List, [], ◌∷◌, ◌++◌, length, get_or, take, flat_map, refl, sym, ap, ◌∙◌, append_assoc}
+use Rattle.std.specs.List.{filter}
+use Rattle.std.proofs.lemmas.List.{take_more, map-append, append-nil}
 use Rattle.std.proofs.lemmas.Grind.{flat_map-append}
 use Rattle.circuit_tables.specs.Folding.{each_once}
 use Rattle.sis_text.specs.declared.places.Line.{Line}
@@ -42,9 +42,6 @@ more_names names_of text lines i line start begun after lt is put before =
     )
 
 -- a line of a don't-care part
-pub part_ports : (line : Entry) → lists_ports (kind_of line) ≡ true → part_names (line ∷ []) ≡ []
-part_ports line e = rw e refl
-
 pub part_other : (line : Entry) → lists_ports (kind_of line) ≡ false → part_names (line ∷ []) ≡ names_on line
 part_other line e = rw e (append-nil (names_on line))
 
@@ -73,16 +70,6 @@ more_part text lines i line start begun after lt is put before =
     )
 
 -- all names of a model
-pub names_parts : (text : List ℕ) (body lines : List Line) (model : List Entry) → lines_at text body ≡ model_lines model → lines_at text lines ≡ model
-    → flat_map names_on (lines_at text body) ++ part_names (lines_at text (drop (length body) lines)) ≡ names_in model
-unfolding names_in part_lines
-names_parts text body lines model own all =
-    ap (λ (back : List Entry). flat_map names_on (lines_at text body) ++ part_names back) rest
-    ∙ ap (λ (front : List Entry). flat_map names_on front ++ part_names (part_lines model)) own
-    ∙ sym (flat_map-append names_on (model_lines model) (filter (λ line. not (lists_ports (kind_of line))) (part_lines model)))
-  where
-    rest : lines_at text (drop (length body) lines) ≡ drop (length (model_lines model)) model
-    rest =
-        sym (drop-map (entry_at text) (length body) lines)
-        ∙ ap (λ (n : ℕ). drop n (lines_at text lines)) (sym (length-map body (entry_at text)) ∙ ap length own)
-        ∙ ap (drop (length (model_lines model))) all
+pub names_parts : (model : List Entry) → flat_map names_on (model_lines model) ++ part_names (part_lines model) ≡ names_in model
+unfolding names_in
+names_parts model = sym (flat_map-append names_on (model_lines model) (filter (λ line. not (lists_ports (kind_of line))) (part_lines model)))

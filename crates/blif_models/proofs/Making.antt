@@ -9,20 +9,19 @@ use Rattle.line_words.specs.LineWords.{long_name}
 use Rattle.genlib_format.specs.declared.gate.Gate.{Gate as TheGate}
 use Rattle.blif_lines.specs.declared.fault.LimitKind.TheVariants as limit
 use Rattle.blif_lines.specs.declared.fault.BlifFault.{BlifFault}
-use Rattle.blif_lines.specs.declared.fault.BlifFault.TheVariants.{Limit, NameClash}
+use Rattle.blif_lines.specs.declared.fault.BlifFault.TheVariants.{Limit}
 use Rattle.blif_lines.specs.declared.fault.ReadFault.{ReadFault}
 use Rattle.blif_lines.specs.declared.fault.ReadFault.TheVariants.{Fault, Memory}
-use Rattle.blif_lines.specs.Lines.{first_of, long_fault}
+use Rattle.blif_lines.specs.Lines.{long_fault}
 use Rattle.blif_lines.specs.Reader.{unless}
 use Rattle.blif_models.specs.Files.{lines_at}
 use Rattle.blif_models.specs.Models.{is_instance, model_of, body_of, size_of}
 use Rattle.blif_models.specs.Flat.{Instance, is_formal, outside, numbered, from_instances, instance_of, flat_lines}
-use Rattle.blif_models.specs.Made.{signals_in, names_in, made_by, made_in, first_clash}
-use Rattle.blif_models.specs.Reader.{made_names}
+use Rattle.blif_models.specs.Made.{signals_in, made_by, made_in}
 use Rattle.blif_models.specs.Instances.{instance_in, frames_in}
 use Rattle.blif_models.specs.declared.instance.Instance.{Instance as Kept}
 use Rattle.blif_models.specs.Tables.{place_after}
-use Rattle.blif_models.specs.Makings.{after_made, make_one, make_all, Makes, IsMade, Checks, made_fault, outside_all, own_names, bare_instance, item_names, names_from}
+use Rattle.blif_models.specs.Makings.{after_made, make_one, make_all, Makes, IsMade, outside_all, own_names, bare_instance, item_names, names_from}
 use Rattle.sis_base.specs.declared.limits.TheConstants.{MAX_NAME}
 
 -- names after others are made after them
@@ -299,32 +298,3 @@ frames_cut frames rest cut count last is many grown =
     ∙ ap (take count) grown
     ∙ take-append-le count (frames_in frames) (last ∷ []) most
     ∙ take_all count (frames_in frames) least
-
--- what is wrong with what is made
-pub long_found : (library : Option (List TheGate)) (models : List (List Entry)) (model : List Entry) (fault : ReadFault) → IsMade (Err fault) (made_names library models model)
-    → Checks (Err fault) (made_fault library models model)
-unfolding made_fault first_of
-long_found library models model (Fault fault) is = by (long_fault (made_names library models model)) is
-  where
-    by : (o : Option BlifFault) → o ≡ Some fault → first_of (o ∷ option_map (λ name. NameClash name) (first_clash (names_in model) (made_names library models model)) ∷ []) ≡ Some fault
-    by None e = absurd (let off = e in cc)
-    by (Some one) e = e
-long_found library models model Memory is = tt
-
-pub clash_found : (library : Option (List TheGate)) (models : List (List Entry)) (model : List Entry) (made names : List (List ℕ)) (found : Option BlifFault)
-    → made ≡ made_names library models model → long_fault (made_names library models model) ≡ None → names ≡ names_in model → found ≡ option_map (λ name. NameClash name) (first_clash names made)
-    → made_fault library models model ≡ found
-unfolding made_fault first_of
-clash_found library models model made names found is none own clash =
-    by (long_fault (made_names library models model)) none
-    ∙ alone (option_map (λ name. NameClash name) (first_clash (names_in model) (made_names library models model)))
-    ∙ sym (clash ∙ ap (λ (some : List (List ℕ)). option_map (λ name. NameClash name) (first_clash some made)) own ∙ ap (λ (some : List (List ℕ)). option_map (λ name. NameClash name) (first_clash (names_in model) some)) is)
-  where
-    by : (o : Option BlifFault) → o ≡ None → first_of (o ∷ option_map (λ name. NameClash name) (first_clash (names_in model) (made_names library models model)) ∷ [])
-        ≡ first_of (option_map (λ name. NameClash name) (first_clash (names_in model) (made_names library models model)) ∷ [])
-    by None e = refl
-    by (Some one) e = absurd (let off = e in cc)
-
-    alone : (o : Option BlifFault) → first_of (o ∷ []) ≡ o
-    alone None = refl
-    alone (Some one) = refl

@@ -1,10 +1,10 @@
 -- What the signals of an instance are named outside, and the steps over its lines.
-use Rattle.std.proofs.Common.{◌≡◌, ℕ, ◌<◌, Bool, true, false, ◌||◌, cond, if◌then◌else◌, Option, Some, None, option_map, List, [], ◌∷◌, ◌++◌, length, take, drop, map, find, is_some, bytes_eq, codes, refl, sym, ap, ◌∙◌, arith}
+use Rattle.std.proofs.Common.{◌≡◌, ℕ, Bool, true, false, ◌||◌, cond, if◌then◌else◌, Option, Some, None, option_map, List, [], ◌∷◌, ◌++◌, find, is_some, bytes_eq, codes, refl, sym, ap, ◌∙◌}
 use Rattle.std.specs.Option.{option_map_or}
 use Rattle.circuit_model.specs.Names.{has}
 use Rattle.blif_gates.specs.GateLines.{pin_in, signal_in, pins_of, signal_for}
 use Rattle.blif_models.specs.Renaming.{actual_of}
-use Rattle.blif_models.specs.Flat.{Instance, outside, latch_outside}
+use Rattle.blif_models.specs.Flat.{Instance, outside}
 
 -- a signal outside, by its actual
 outside_by : (pairs : List (List ℕ)) (signal other : List ℕ)
@@ -33,14 +33,6 @@ unfolding outside
 outside_other instance signal e =
     outside_by instance.pairs signal (instance.path ++ codes "." ++ signal)
     ∙ ap (λ (o : Option (List ℕ)). option_map_or (λ (one : List ℕ). one) o (instance.path ++ codes "." ++ signal)) (sym e)
-
--- a latch without a control
-pub latch_short : (instance : Instance) (words : List (List ℕ)) → length words < 4 → latch_outside instance words ≡ map (outside instance) (take 2 words) ++ drop 2 words
-latch_short instance [] h = refl
-latch_short instance (input ∷ []) h = refl
-latch_short instance (input ∷ output ∷ []) h = refl
-latch_short instance (input ∷ output ∷ word ∷ []) h = refl
-latch_short instance (input ∷ output ∷ kind ∷ control ∷ words) h = absurd (omega (arith, h))
 
 -- a formal has an actual
 pub formal_known : (pairs : List (List ℕ)) (signal : List ℕ) → is_some (actual_of pairs signal) ≡ has (pins_of pairs) signal

@@ -1,13 +1,13 @@
 -- The ports of models by rounds.
-use Rattle.std.specs.Prelude.{◌≡◌, ℕ, zero, suc, ◌+◌, ◌-◌, ◌≤◌, true, false, not, Option, Some, None, List, [], ◌∷◌, map, flat_map, length, slice_index_or, if◌then◌else◌}
-use Rattle.std.specs.List.{filter, list_all, range_with_len}
+use Rattle.std.specs.Prelude.{◌≡◌, ℕ, zero, suc, ◌+◌, ◌-◌, ◌≤◌, true, Option, Some, None, List, [], ◌∷◌, map, flat_map, length, slice_index_or, if◌then◌else◌}
+use Rattle.std.specs.List.{list_all, range_with_len}
 use Rattle.std.specs.Option.{option_map_or}
 use Rattle.std.proofs.Common.{refl, sym, ◌∙◌, ap, subst, add-one, arith}
 use Rattle.std.proofs.lemmas.List.Elements.{filter_agree}
 use Rattle.sis_text.specs.Entries.{Entry}
 use Rattle.circuit_model.specs.Names.{has}
 use Rattle.circuit_tables.specs.Folding.{each_once}
-use Rattle.circuit_tables.proofs.Once.{and_left, and_right, has-each_once, different-each_once, each_once-different}
+use Rattle.circuit_tables.proofs.Once.{and_left, and_right, has-each_once}
 use Rattle.genlib_format.specs.declared.gate.Gate.{Gate}
 use Rattle.line_words.specs.LineWords.{other_words}
 use Rattle.blif_gates.specs.GateLines.{pin_in, signals_of}
@@ -16,12 +16,9 @@ use Rattle.blif_lines.specs.Reader.{model_lines, lists_inputs, lists_outputs, na
 use Rattle.blif_models.specs.Models.{is_instance, model_of, pairs_of, index_of, body_of}
 use Rattle.blif_models.specs.Ports.{Ports, own_outputs, actuals_of, reads_with, drives_with, ports_with, ports_at}
 use Rattle.blif_models.specs.PortTables.{no_ports, once_ports, ports_by, lists_both, table_at, next_ports, next_table}
-use Rattle.blif_models.specs.Sides.{other_side, ports_on, signals_with, lists_on}
-use Rattle.blif_models.specs.declared.side.Side.{Side}
-use Rattle.blif_models.specs.declared.side.Side.TheVariants as side
 use Rattle.blif_models.proofs.ByIndex.{value_at, by_places, mapped_same}
 use Rattle.blif_models.proofs.Rounds.{body_by, no_lines}
-use Rattle.blif_models.proofs.PortSets.{has_own, side_found}
+use Rattle.blif_models.proofs.PortSets.{has_own}
 
 -- ports that tests do not tell apart
 record Same (ports other : Ports) : Type 0 where
@@ -142,11 +139,6 @@ last_round library models round depth table made t m same le =
     again : table_at library models (round + 1) ≡ table_at library models round
     again = sym (more_table library models round table made t m) ∙ same ∙ t
 
--- names that are found are different
-once_beside : (others names : List (List ℕ)) → each_once (names_beside others names) ≡ names_beside others names
-unfolding names_beside
-once_beside others names = each_once-different (each_once (filter (λ name. not (has others name)) names)) (different-each_once (filter (λ name. not (has others name)) names))
-
 -- if each model lists its ports, one round is enough
 
 listed_ports : (library : Option (List Gate)) (f g : List ℕ → Ports) (model : List Entry) → lists_both model ≡ true → ports_with library f (model_lines model) ≡ ports_with library g (model_lines model)
@@ -167,31 +159,3 @@ listed_table library models depth deeper (model ∷ some) e =
 pub first_is_last : (library : Option (List Gate)) (models : List (List Entry)) (deeper : ℕ) (table : List Ports) → table ≡ table_at library models 1 → list_all lists_both models ≡ true → table ≡ table_at library models (suc deeper)
 unfolding table_at
 first_is_last library models deeper table t e = t ∙ listed_table library models 0 deeper models e
-
--- ports that no line lists are found each once
-pub found_exactly : (place : Side) (library : Option (List Gate)) (models : List (List Entry)) (depth one : ℕ) → lists_on place (model_lines (slice_index_or models one [])) ≡ false
-    → ports_on place (slice_index_or (table_at library models (suc depth)) one no_ports) ≡ ports_on place (ports_at library models (suc depth) (model_lines (slice_index_or models one [])))
-unfolding ports_at
-found_exactly place library models depth one e =
-    ap (ports_on place) (all_ported library models (suc depth) one)
-    ∙ on_once place (ports_with library ports_of lines)
-    ∙ ap each_once found ∙ again ∙ sym found
-  where
-    lines : List Entry
-    lines = model_lines (slice_index_or models one [])
-
-    ports_of : List ℕ → Ports
-    ports_of = λ name. ports_at library models depth (body_of models name)
-
-    beside : List (List ℕ)
-    beside = names_beside (flat_map (signals_with (other_side place) library ports_of) lines) (flat_map (signals_with place library ports_of) lines)
-
-    found : ports_on place (ports_with library ports_of lines) ≡ beside
-    found = side_found place library ports_of lines e
-
-    on_once : (side_of : Side) (ports : Ports) → ports_on side_of (once_ports ports) ≡ each_once (ports_on side_of ports)
-    on_once side.Inputs ports = refl
-    on_once side.Outputs ports = refl
-
-    again : each_once beside ≡ beside
-    again = once_beside (flat_map (signals_with (other_side place) library ports_of) lines) (flat_map (signals_with place library ports_of) lines)

@@ -1,13 +1,12 @@
 -- Faults of the models that are used, found model by model.
-use Rattle.std.specs.Prelude.{◌≡◌, ℕ, suc, ◌+◌, ◌-◌, ◌<◌, ◌≤◌, Bool, true, false, not, ◌&&◌, cond, Option, Some, None, List, [], ◌∷◌, map, find, flat_map, length, drop, slice_index_or, if◌then◌else◌}
+use Rattle.std.specs.Prelude.{◌≡◌, ℕ, suc, ◌+◌, ◌-◌, ◌<◌, ◌≤◌, Bool, true, false, not, ◌&&◌, cond, Option, Some, None, List, [], ◌∷◌, map, find, flat_map, length, slice_index_or, if◌then◌else◌}
 use Rattle.std.specs.List.{filter, filter_map, range_with_len}
 use Rattle.std.specs.Option.{option_map, option_or}
-use Rattle.std.proofs.Common.{refl, sym, ◌∙◌, ap, get_or, arith}
-use Rattle.std.proofs.lemmas.List.{length-map, drop_more}
+use Rattle.std.proofs.Common.{refl, sym, ◌∙◌, ap, arith}
+use Rattle.std.proofs.lemmas.List.{length-map}
 use Rattle.std.proofs.lemmas.List.Folds.{find-append}
 use Rattle.std.proofs.lemmas.List.FromFn.{get_or-map-range_with_len}
-use Rattle.sis_text.specs.Entries.{Entry, entry_at}
-use Rattle.sis_text.specs.declared.places.Line.{Line}
+use Rattle.sis_text.specs.Entries.{Entry}
 use Rattle.circuit_checks.specs.Searching.{is_seen}
 use Rattle.genlib_format.specs.declared.gate.Gate.{Gate}
 use Rattle.line_words.specs.LineWords.{other_words}
@@ -156,17 +155,3 @@ ports_begin library models table t =
     each model =
         ap bad (found_same (is_wrong models table) (λ line. is_instance line && test line) (λ line. ap (λ (one : Bool). is_instance line && not one) (named line)) (model_lines model)
         ∙ sym (found_if test is_instance (model_lines model)))
-
--- the first wrong line
-
-pub line_passes : (test : Entry → Bool) (text : List ℕ) (lines : List Line) (i : ℕ) (line : Line) → i < length lines → line ≡ get_or lines i line → test (entry_at text line) ≡ true
-    → find test (map (entry_at text) (drop i lines)) ≡ Some (entry_at text line)
-line_passes test text lines i line lt is e =
-    ap (λ (list : List Line). find test (map (entry_at text) list)) (drop_more lines i line lt ∙ ap (λ (one : Line). one ∷ drop (i + 1) lines) (sym is))
-    ∙ ap (λ (b : Bool). cond b (Some (entry_at text line)) (find test (map (entry_at text) (drop (i + 1) lines)))) e
-
-pub line_fails : (test : Entry → Bool) (text : List ℕ) (lines : List Line) (i : ℕ) (line : Line) → i < length lines → line ≡ get_or lines i line → test (entry_at text line) ≡ false
-    → find test (map (entry_at text) (drop (i + 1) lines)) ≡ find test (map (entry_at text) (drop i lines))
-line_fails test text lines i line lt is e = sym
-    (ap (λ (list : List Line). find test (map (entry_at text) list)) (drop_more lines i line lt ∙ ap (λ (one : Line). one ∷ drop (i + 1) lines) (sym is))
-    ∙ ap (λ (b : Bool). cond b (Some (entry_at text line)) (find test (map (entry_at text) (drop (i + 1) lines)))) e)

@@ -37,25 +37,6 @@ passed : (fault : Option BlifFault) (read : Result Content BlifFault) (what : Co
 passed None read what e = (refl, e)
 passed (Some fault) read what e = absurd (let off : Err fault ≡ Ok what = e in cc)
 
-read_by : (library : Option (List TheGate)) (lines : List Entry) (what : Content) (P : Type 0) → read_models library lines ≡ Ok what
-    → (file_fault library [] (models_of lines) ≡ None → read_lines library (first_model lines) ≡ Ok what → P)
-    → (file_fault library [] (models_of lines) ≡ None → read_lines library (flat_model library (models_of lines) (first_model lines)) ≡ Ok what → P) → P
-unfolding read_models read_first
-read_by library lines what P e first flat = by (has_instances (model_lines (first_model lines))) read.1
-  where
-    models : List (List Entry)
-    models = models_of lines
-
-    read : (first_of (file_fault library [] models ∷ unknown_model models ∷ []) ≡ None) × (read_first library models (first_model lines) ≡ Ok what)
-    read = passed (first_of (file_fault library [] models ∷ unknown_model models ∷ [])) (read_first library models (first_model lines)) what e
-
-    no_fault : file_fault library [] models ≡ None
-    no_fault = none_first (file_fault library [] models) (unknown_model models ∷ []) read.0
-
-    by : (b : Bool) → (if not b then read_lines library (first_model lines) else first_fault (models_fault library models (first_model lines)) (read_lines library (flat_model library models (first_model lines)))) ≡ Ok what → P
-    by false f = first no_fault f
-    by true f = flat no_fault (passed (models_fault library models (first_model lines)) (read_lines library (flat_model library models (first_model lines))) what f).1
-
 -- the models of lines of words, where no line has a fault
 
 line_named : (library : Option (List TheGate)) (back : List Entry) (line : Entry) → line_fault library back line ≡ None → NamesSome line
@@ -113,29 +94,45 @@ flat_words_read library lines a none =
     flat_model_words library (models_of lines) (first_model lines) (models_words lines a)
     (both_hold (first_model lines) (first_words lines a) (model_at (AllByRecursion NamesSome) tt (models_of lines) 0 (models_named library [] (models_of lines) none)))
 
+-- what is read is read by itself, by the lines of the first model or by those of the flat one
+read_by : (library : Option (List TheGate)) (lines : List Entry) (what : Content) (P : Type 0) → read_models library lines ≡ Ok what
+    → ((model : List Entry) → (AreWordLines lines → AreWordLines model) → read_lines library model ≡ Ok what → P) → P
+unfolding read_models read_first
+read_by library lines what P e from = by (has_instances (model_lines (first_model lines))) read.1
+  where
+    models : List (List Entry)
+    models = models_of lines
+
+    read : (first_of (file_fault library [] models ∷ unknown_model models ∷ []) ≡ None) × (read_first library models (first_model lines) ≡ Ok what)
+    read = passed (first_of (file_fault library [] models ∷ unknown_model models ∷ [])) (read_first library models (first_model lines)) what e
+
+    no_fault : file_fault library [] models ≡ None
+    no_fault = none_first (file_fault library [] models) (unknown_model models ∷ []) read.0
+
+    by : (b : Bool) → (if not b then read_lines library (first_model lines) else first_fault (models_fault library models (first_model lines)) (read_lines library (flat_model library models (first_model lines)))) ≡ Ok what → P
+    by false f = from (first_model lines) (first_words lines) f
+    by true f =
+        from (flat_model library models (first_model lines)) (λ words. flat_words_read library lines words no_fault)
+        (passed (models_fault library models (first_model lines)) (read_lines library (flat_model library models (first_model lines))) what f).1
+
 -- circuits
 pub small_models : (library : Option (List TheGate)) (lines : List Entry) (circuit : Circuit) → IsSoundLibrary library → read_models library lines ≡ Ok (content.Circuit circuit) → IsWithinLimits circuit
 small_models library lines circuit sound e =
-    read_by library lines (content.Circuit circuit) (IsWithinLimits circuit) e (λ none read. small_read library (first_model lines) circuit sound read)
-    (λ none read. small_read library (flat_model library (models_of lines) (first_model lines)) circuit sound read)
+    read_by library lines (content.Circuit circuit) (IsWithinLimits circuit) e (λ model words read. small_read library model circuit sound read)
 
 pub short_models : (library : Option (List TheGate)) (lines : List Entry) (circuit : Circuit) → read_models library lines ≡ Ok (content.Circuit circuit) → HasShortNames circuit
 short_models library lines circuit e =
-    read_by library lines (content.Circuit circuit) (HasShortNames circuit) e (λ none read. short_read library (first_model lines) circuit read)
-    (λ none read. short_read library (flat_model library (models_of lines) (first_model lines)) circuit read)
+    read_by library lines (content.Circuit circuit) (HasShortNames circuit) e (λ model words read. short_read library model circuit read)
 
 pub sound_models : (library : Option (List TheGate)) (lines : List Entry) (circuit : Circuit) → AreWordLines lines → read_models library lines ≡ Ok (content.Circuit circuit) → IsSound circuit
 sound_models library lines circuit a e =
-    read_by library lines (content.Circuit circuit) (IsSound circuit) e (λ none read. sound_read library (first_model lines) circuit (first_words lines a) read)
-    (λ none read. sound_read library (flat_model library (models_of lines) (first_model lines)) circuit (flat_words_read library lines a none) read)
+    read_by library lines (content.Circuit circuit) (IsSound circuit) e (λ model words read. sound_read library model circuit (words a) read)
 
 -- heads of machines
 pub short_head_models : (library : Option (List TheGate)) (lines : List Entry) (head : Head) → read_models library lines ≡ Ok (content.Head head) → HasShortHead head
 short_head_models library lines head e =
-    read_by library lines (content.Head head) (HasShortHead head) e (λ none read. short_head_read library (first_model lines) head read)
-    (λ none read. short_head_read library (flat_model library (models_of lines) (first_model lines)) head read)
+    read_by library lines (content.Head head) (HasShortHead head) e (λ model words read. short_head_read library model head read)
 
 pub sound_head_models : (library : Option (List TheGate)) (lines : List Entry) (head : Head) → AreWordLines lines → read_models library lines ≡ Ok (content.Head head) → IsSoundHead head
 sound_head_models library lines head a e =
-    read_by library lines (content.Head head) (IsSoundHead head) e (λ none read. sound_head_read library (first_model lines) head (first_words lines a) read)
-    (λ none read. sound_head_read library (flat_model library (models_of lines) (first_model lines)) head (flat_words_read library lines a none) read)
+    read_by library lines (content.Head head) (IsSoundHead head) e (λ model words read. sound_head_read library model head (words a) read)

@@ -4,10 +4,13 @@ use Rattle.std.specs.Prelude.{◌≡◌, ℕ, ◌+◌, ◌-◌, Bool, Option, Li
 use Rattle.std.specs.List.{filter, range_with_len}
 use Rattle.sis_text.specs.Entries.{Entry}
 use Rattle.genlib_format.specs.declared.gate.Gate.{Gate as TheGate}
-use Rattle.blif_lines.specs.Reader.{model_lines, clocks_in, lists_inputs, lists_outputs}
+use Rattle.blif_lines.specs.Reader.{model_lines, clocks_in}
 use Rattle.blif_models.specs.Models.{model_graph, is_used}
 use Rattle.blif_models.specs.Ports.{ports_at}
 use Rattle.blif_models.specs.Flat.{added}
+use Rattle.blif_models.specs.Sides.{ports_on, lists_on}
+use Rattle.blif_models.specs.declared.side.Side.{Side}
+use Rattle.blif_models.specs.declared.side.Side.TheVariants as side
 use Rattle.blif_models.specs.declared.limits.TheConstants.{MAX_DEPTH}
 
 -- which of the models are used
@@ -28,9 +31,11 @@ clocks_from models place =
 abbrev pub port_line : Bool → List ℕ → List (List ℕ) → List Entry
 port_line listed word names = if listed then [] else added (word ∷ names) ∷ []
 
--- the line of the inputs of some lines, and that of their outputs
-abbrev pub inputs_line : Option (List TheGate) → List (List Entry) → List Entry → List Entry
-inputs_line library models lines = port_line (lists_inputs lines) (codes ".inputs") (ports_at library models (MAX_DEPTH + 1) lines).inputs
+-- the word that begins a line of the ports of a side
+abbrev pub port_word : Side → List ℕ
+port_word side.Inputs = codes ".inputs"
+port_word side.Outputs = codes ".outputs"
 
-abbrev pub outputs_line : Option (List TheGate) → List (List Entry) → List Entry → List Entry
-outputs_line library models lines = port_line (lists_outputs lines) (codes ".outputs") (ports_at library models (MAX_DEPTH + 1) lines).outputs
+-- the line of the ports of a side of some lines
+abbrev pub side_line : Side → Option (List TheGate) → List (List Entry) → List Entry → List Entry
+side_line place library models lines = port_line (lists_on place lines) (port_word place) (ports_on place (ports_at library models (MAX_DEPTH + 1) lines))

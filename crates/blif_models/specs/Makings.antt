@@ -1,20 +1,24 @@
 -- The names that are made, name by name, up to the first that is too long. Only clauses of this
 -- crate's own functions cite this module.
-use Rattle.std.specs.Prelude.{◌≡◌, ℕ, ◌==◌, nat_lt, not, Option, Some, None, option_map, Result, Ok, Err, List, [], ◌∷◌, ◌++◌, flat_map, map, length, if◌then◌else◌}
+use Rattle.std.specs.Prelude.{◌≡◌, ℕ, ◌==◌, nat_lt, not, Option, Some, None, Result, Ok, Err, List, [], ◌∷◌, ◌++◌, flat_map, map, length, if◌then◌else◌}
 use Rattle.std.specs.List.{filter}
 use Rattle.sis_text.specs.Entries.{Entry}
+use Rattle.line_words.specs.LineWords.{other_words}
+use Rattle.blif_gates.specs.GateLines.{signals_of}
+use Rattle.blif_lines.specs.declared.keyword.Keyword.{Keyword}
 use Rattle.genlib_format.specs.declared.gate.Gate.{Gate as TheGate}
 use Rattle.blif_lines.specs.declared.fault.LimitKind.TheVariants as limit
 use Rattle.blif_lines.specs.declared.fault.BlifFault.{BlifFault}
-use Rattle.blif_lines.specs.declared.fault.BlifFault.TheVariants.{Limit, NameClash}
+use Rattle.blif_lines.specs.declared.fault.BlifFault.TheVariants.{Limit}
 use Rattle.blif_lines.specs.declared.fault.ReadFault.{ReadFault}
 use Rattle.blif_lines.specs.declared.fault.ReadFault.TheVariants as read_fault
 use Rattle.blif_lines.specs.Keyword.{kind_of}
-use Rattle.blif_lines.specs.Lines.{first_of, long_fault}
+use Rattle.blif_lines.specs.Lines.{long_fault}
 use Rattle.blif_models.specs.Models.{is_instance, model_of, pairs_of, body_of, size_of}
 use Rattle.blif_models.specs.Flat.{Instance, is_formal, path_word, outside, numbered, instance_of, flat_lines}
-use Rattle.blif_models.specs.Made.{signals_in, names_on, lists_ports, names_in, made_by, made_in, first_clash}
-use Rattle.blif_models.specs.Reader.{made_names}
+use Rattle.blif_models.specs.Made.{mentioned, names_by, signals_in, names_on, lists_ports, made_by, made_in}
+use Rattle.blif_models.specs.declared.mentions.Extent.{Extent}
+use Rattle.blif_models.specs.declared.mentions.Extent.TheVariants as extent
 use Rattle.sis_base.specs.declared.limits.TheConstants.{MAX_NAME}
 
 -- the next step after one without a fault; a fault stays
@@ -69,18 +73,15 @@ IsMade (Ok made) names = (made ≡ names) × (long_fault names ≡ None)
 IsMade (Err (read_fault.Fault fault)) names = long_fault names ≡ Some fault
 IsMade (Err read_fault.Memory) names = Unit {0}
 
+-- the names of a line that are asked for, by its kind and its words after the first
+abbrev pub named_as : Extent → Keyword → List (List ℕ) → List (List ℕ)
+named_as extent.Signals kind words = mentioned kind words
+named_as extent.All kind words = names_by kind words
+
+-- the names of a line that are asked for
+abbrev pub named_on : Extent → Entry → List (List ℕ)
+named_on extent line = if is_instance line then signals_of (pairs_of line) else named_as extent (kind_of line) (other_words line.words)
+
 -- all names of lines of a don't-care part, in which ports are skipped
 abbrev pub part_names : List Entry → List (List ℕ)
 part_names lines = flat_map names_on (filter (λ line. not (lists_ports (kind_of line))) lines)
-
--- the answer of a check, compared with the fault that it should find; want of memory is always
--- allowed
-abbrev pub Checks : Result (Unit {0}) ReadFault → Option BlifFault → Type 0
-Checks (Ok done) fault = fault ≡ None
-Checks (Err (read_fault.Fault one)) fault = fault ≡ Some one
-Checks (Err read_fault.Memory) fault = Unit {0}
-
--- what is wrong with the names made by the instances of a model
-unfoldable pub made_fault : Option (List TheGate) → List (List Entry) → List Entry → Option BlifFault
-made_fault library models model = first_of
-    (long_fault (made_names library models model) ∷ option_map (λ name. NameClash name) (first_clash (names_in model) (made_names library models model)) ∷ [])

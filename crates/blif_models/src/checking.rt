@@ -41,7 +41,8 @@ fn is_earlier(file: &File<'_>, place: usize, name: &[u8]) -> bool
 #[tactic(auto, unfolding(blif_lines::specs::Reader::model_name))]
 fn name_fault(file: &File<'_>, place: usize, line: &Line) -> Option<BlifFault>
     ensures { result ≡ when (has (names_before file.now.models place)
-        (model_name (entry_at file.now.text line.now ∷ []))) (blif_fault.ModelTwice line.now.number) }
+        (model_name (entry_at file.now.text line.now ∷ [])))
+        (blif_fault.ModelTwice line.now.number) }
 {
     if is_earlier(file, place, name_on(file.text(), line)) {
         return Some(BlifFault::ModelTwice(line.number));

@@ -5,7 +5,7 @@
 //! splits the lines as `models_of` of `specs/Models.antt`; a name leads to the first model that has
 //! it. All slices are of the text that is read; nothing is copied.
 
-ghost use Rattle.std.specs.Prelude.{◌≡◌, ◌<◌, ◌≤◌, ℕ, List, Some, None, [], not, map, length, drop, take_while, slice_index_or, bytes_eq, IfOk, OnOk, if◌then◌else◌};
+ghost use Rattle.std.specs.Prelude.{◌≡◌, ◌<◌, ◌≤◌, ℕ, List, Some, None, [], not, map, length, take_while, slice_index_or, bytes_eq, IfOk, OnOk, if◌then◌else◌};
 ghost use Rattle.std.specs.Option.{option_or};
 ghost use Rattle.sis_text.specs.declared.places.Line.{Line};
 ghost use Rattle.sis_text.specs.Entries.{entry_at};
@@ -61,16 +61,6 @@ fn begin_place(text: &[u8], lines: &[Line]) -> usize
         .count()
 }
 
-/// The lines after the first.
-fn behind(lines: &[Line]) -> &[Line]
-    ensures { result.now ≡ drop 1 lines.now }
-{
-    match lines {
-        [] => lines,
-        [_, others @ ..] => others,
-    }
-}
-
 /// The number of lines of the first model.
 fn model_len(text: &[u8], lines: &[Line]) -> usize
     requires { 0 < length lines.now }
@@ -78,7 +68,7 @@ fn model_len(text: &[u8], lines: &[Line]) -> usize
     ensures some { 0 < result }
     ensures within { result ≤ length lines.now }
 {
-    1 + begin_place(text, behind(lines))
+    1 + begin_place(text, line_kind::behind(lines))
 }
 
 /// The models of the lines of a text.

@@ -18,7 +18,8 @@ ghost use Rattle.blif_models.specs.PortTables.{once_ports, table_at};
 ghost use Rattle.blif_models.specs.Ports.{ports_at};
 ghost use Rattle.blif_models.specs.Flat.{added, port_lines, clock_line, flat_model, flat_lines};
 ghost use Rattle.blif_models.specs.Tables.{staying};
-ghost use Rattle.blif_models.specs.FirstModel.{MarksUsed, clocks_at, port_line, inputs_line, outputs_line};
+ghost use Rattle.blif_models.specs.FirstModel.{MarksUsed, clocks_at, port_line, port_word, side_line};
+ghost use Rattle.blif_models.specs.Sides.{ports_on};
 ghost use Rattle.blif_models.specs.Contexts.{library_in, models_in, AreRight};
 ghost use Rattle.blif_models.specs.declared.limits.TheConstants.{MAX_DEPTH};
 
@@ -157,35 +158,43 @@ fn first_ports<'t, 'a>(models: &Models<'t, 'a>) -> &'t Ports<'a>
     &models.ports[0]
 }
 
-/// Feeds a draft with the inputs of the first model, if it lists none.
-fn take_inputs(alloc: Global, models: &Models<'_, '_>, draft: &mut Draft) -> Result<(), ReadFault>
-    requires ports { models.now.ports.now ≡ table_at (library_in models.now)
-        (models_in models.now) (MAX_DEPTH + 1) }
-    requires first { 0 < length (models_in models.now) }
-    ensures { Takes result draft.new (take_entries (library_in models.now) draft.old (inputs_line
-        (library_in models.now) (models_in models.now)
-        (model_lines (slice_index_or (models_in models.now) 0 [])))) }
+/// The word that begins a line of the ports of a side.
+fn port_word(side: Side) -> &'static [u8]
+    ensures { result.now ≡ port_word side }
 {
-    let ports = first_ports(models);
-    let names = ports.inputs.words();
-    let word = b".inputs".as_slice();
-    let listed = lists(models.file.text(), Side::Inputs, models.file.body(0));
-    take_ports(alloc, models.library, listed, word, names, draft)
+    match side {
+        Side::Inputs => b".inputs".as_slice(),
+        Side::Outputs => b".outputs".as_slice(),
+    }
 }
 
-/// Feeds a draft with the outputs of the first model, if it lists none.
-fn take_outputs(alloc: Global, models: &Models<'_, '_>, draft: &mut Draft) -> Result<(), ReadFault>
+/// The ports of a side.
+fn words_on<'p, 'a>(ports: &'p Ports<'a>, side: Side) -> &'p [&'a [u8]]
+    ensures { texts result.now ≡ ports_on side ports.now }
+{
+    match side {
+        Side::Inputs => ports.inputs.words(),
+        Side::Outputs => ports.outputs.words(),
+    }
+}
+
+/// Feeds a draft with the ports of a side of the first model, if it lists none.
+fn take_side(
+    alloc: Global,
+    models: &Models<'_, '_>,
+    side: Side,
+    draft: &mut Draft,
+) -> Result<(), ReadFault>
     requires ports { models.now.ports.now ≡ table_at (library_in models.now)
         (models_in models.now) (MAX_DEPTH + 1) }
     requires first { 0 < length (models_in models.now) }
-    ensures { Takes result draft.new (take_entries (library_in models.now) draft.old (outputs_line
-        (library_in models.now) (models_in models.now)
+    ensures { Takes result draft.new (take_entries (library_in models.now) draft.old (side_line
+        side (library_in models.now) (models_in models.now)
         (model_lines (slice_index_or (models_in models.now) 0 [])))) }
 {
-    let ports = first_ports(models);
-    let names = ports.outputs.words();
-    let word = b".outputs".as_slice();
-    let listed = lists(models.file.text(), Side::Outputs, models.file.body(0));
+    let names = words_on(first_ports(models), side);
+    let word = port_word(side);
+    let listed = lists(models.file.text(), side, models.file.body(0));
     take_ports(alloc, models.library, listed, word, names, draft)
 }
 
@@ -202,8 +211,8 @@ fn take_port_lines(
         (library_in models.now) (models_in models.now)
         (model_lines (slice_index_or (models_in models.now) 0 [])))) }
 {
-    take_inputs(alloc, models, draft)?;
-    take_outputs(alloc, models, draft)
+    take_side(alloc, models, Side::Inputs, draft)?;
+    take_side(alloc, models, Side::Outputs, draft)
 }
 
 /// The clocks of the models that are used, beside those of the first.

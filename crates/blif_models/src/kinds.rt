@@ -5,18 +5,16 @@ ghost use Rattle.sis_text.specs.Entries.{entry_at};
 ghost use Rattle.blif_lines.specs.Keyword.{kind_of};
 ghost use Rattle.blif_lines.specs.Lines.{is_node_kind};
 
+use crate::line_kind::first_of;
 use blif_lines::{Keyword, keyword_of};
-use sis_text::{Line, bytes_at};
+use sis_text::Line;
 
 /// The kind of a line.
 #[tactic(auto, unfolding(blif_lines::specs::Keyword::kind_of))]
 pub fn kind_at(text: &[u8], line: &Line) -> Keyword
     ensures { result ≡ kind_of (entry_at text.now line.now) }
 {
-    match line.words.as_slice() {
-        [] => keyword_of(b"".as_slice()),
-        [first, ..] => keyword_of(bytes_at(text, *first)),
-    }
+    keyword_of(first_of(text, line.words.as_slice()))
 }
 
 /// Whether a line is that of a table, a latch or a gate.

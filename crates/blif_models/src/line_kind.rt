@@ -17,7 +17,7 @@ ghost use Rattle.blif_models.specs.Models.{begins_model, is_instance, model_of};
 use sis_text::{Line, Span, bytes_at};
 
 /// The first of some words; no bytes if there is none.
-fn first_of<'a>(text: &'a [u8], words: &[Span]) -> &'a [u8]
+pub fn first_of<'a>(text: &'a [u8], words: &[Span]) -> &'a [u8]
     ensures { result.now ≡ first_word (map (bytes_at text.now) words.now) }
 {
     match words {
@@ -50,12 +50,12 @@ pub fn begins_part(text: &[u8], line: &Line) -> bool
     first_of(text, line.words.as_slice()) == b".exdc".as_slice()
 }
 
-/// The words of a line after the first.
-fn behind(words: &[Span]) -> &[Span]
-    ensures { result.now ≡ drop 1 words.now }
+/// The items after the first.
+pub fn behind<T>(items: &[T]) -> &[T]
+    ensures { result.now ≡ drop 1 items.now }
 {
-    match words {
-        [] => words,
+    match items {
+        [] => items,
         [_, others @ ..] => others,
     }
 }

@@ -5,28 +5,27 @@
 //! before those within it. `made_names` makes each name as it is outside of all instances around
 //! it, those newest last, and stops at the first that is too long, so that no longer one is kept.
 
-ghost use Rattle.std.specs.Prelude.{◌≡◌, ◌+◌, ◌++◌, ◌∷◌, [], map, option_copied, option_map, slice_index_or, IfOk, OnOk};
+ghost use Rattle.std.specs.Prelude.{◌≡◌, ◌+◌, ◌++◌, ◌∷◌, [], map, option_copied, IfOk, OnOk};
 ghost use Rattle.sis_text.specs.Entries.{entry_at};
-ghost use Rattle.blif_lines.specs.declared.fault.BlifFault.TheVariants.{NameClash};
 ghost use Rattle.blif_models.specs.Files.{lines_at};
 ghost use Rattle.blif_models.specs.Made.{signals_in, made_in, first_clash};
 ghost use Rattle.blif_models.specs.declared.limits.TheConstants.{MAX_DEPTH};
 ghost use Rattle.blif_models.specs.Instances.{instance_in, frames_in};
-ghost use Rattle.blif_models.specs.Makings.{make_one, make_all, Makes, IsMade, Checks, made_fault, outside_all, own_names, bare_instance, item_names};
+ghost use Rattle.blif_models.specs.Makings.{make_one, make_all, Makes, IsMade, outside_all, own_names, bare_instance, item_names};
 ghost use Rattle.blif_models.specs.Contexts.{library_in, models_in, text_in, AreRight};
 
 use crate::file::File;
 use crate::flat::{Models, instance_with, model_at, place_after};
 use crate::instance::{Instance, add_copies};
 use crate::limits::MAX_DEPTH;
-use crate::mentions::{each_once, names_in, signals_in};
+use crate::mentions::{each_once, signals_in};
 use blif_lines::{BlifFault, LimitKind, ReadFault};
 use circuit_checks::first_listed_twice;
 use circuit_model::{Name, Names};
 use indexmap::IndexSet;
 use line_words::name_of;
+use sis_base::Sequence;
 use sis_base::limits::MAX_NAME;
-use sis_base::{Copied, Sequence};
 use sis_text::Line;
 use std::alloc::{AllocError, Global};
 
@@ -213,37 +212,4 @@ pub fn first_clash<'m>(
     add_copies(alloc, &mut all, made)?;
     let found = first_listed_twice(alloc, all.as_slice(), &[], made)?;
     Ok(found)
-}
-
-/// The fault of the first made name that clashes.
-fn clash_fault(
-    alloc: Global,
-    names: &[Name],
-    made: &[Name],
-) -> Result<Option<BlifFault>, AllocError>
-    ensures { IfOk result (λ fault. fault ≡ option_map (λ name. NameClash name)
-        (first_clash names.now made.now)) }
-{
-    match first_clash(alloc, names, made)? {
-        None => Ok(None),
-        Some(name) => Ok(Some(BlifFault::NameClash(name.copy(alloc)?))),
-    }
-}
-
-/// Checks the names made by the instances of the first model. An error is the first that is too
-/// long, otherwise the first that clashes; or want of memory.
-#[tactic(auto, unfolding(crate::specs::Makings::made_fault, blif_lines::specs::Lines::first_of))]
-pub fn check_made(alloc: Global, models: &Models<'_, '_>) -> Result<(), ReadFault>
-    requires { AreRight models.now }
-    ensures { Checks result (made_fault (library_in models.now) (models_in models.now)
-        (slice_index_or (models_in models.now) 0 [])) }
-{
-    let made = made_names(alloc, models, models.file.body(0))?;
-    let names = names_in(alloc, models.file, 0)?;
-    let own = names.as_slice();
-    let others = made.as_slice();
-    if let Some(fault) = clash_fault(alloc, own, others)? {
-        return Err(ReadFault::Fault(fault));
-    }
-    Ok(())
 }

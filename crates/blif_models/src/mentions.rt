@@ -4,7 +4,7 @@
 //! mention signals, `.subckt` lines the actuals of their pairs. A don't-care part skips its ports.
 //! The results are those of `specs/Made.antt`.
 
-ghost use Rattle.std.specs.Prelude.{◌≡◌, ◌++◌, ◌∷◌, [], drop, flat_map, length, slice_index_or, IfOk, OnOk};
+ghost use Rattle.std.specs.Prelude.{◌≡◌, ◌++◌, ◌∷◌, [], flat_map, slice_index_or, IfOk, OnOk};
 ghost use Rattle.std.specs.List.{filter};
 ghost use Rattle.sis_text.specs.Entries.{entry_at};
 ghost use Rattle.line_words.specs.LineWords.{texts};
@@ -13,13 +13,14 @@ ghost use Rattle.blif_models.specs.Files.{lines_at};
 ghost use Rattle.circuit_tables.specs.Folding.{each_once};
 ghost use Rattle.blif_lines.specs.Keyword.{kind_of};
 ghost use Rattle.blif_lines.specs.Lines.{latch_names};
-ghost use Rattle.blif_models.specs.Made.{mentioned, signals_on, signals_in, names_by, names_on, lists_ports, names_in};
-ghost use Rattle.blif_models.specs.Makings.{part_names};
+ghost use Rattle.blif_models.specs.Made.{mentioned, signals_in, names_by, lists_ports, names_in};
+ghost use Rattle.blif_models.specs.Makings.{named_as, named_on, part_names};
 
 use crate::file::File;
 use crate::flat::pairs_among;
 use crate::kinds::kind_at;
 use crate::line_kind;
+use crate::sizes::part;
 use blif_gates::signal_in;
 use blif_lines::{Keyword, first_words, names_beside};
 use circuit_model::{Name, Names};
@@ -27,6 +28,13 @@ use line_words::{add_names, name_of, other_words};
 use sis_base::Sequence;
 use sis_text::{Line, texts_at};
 use std::alloc::{AllocError, Global};
+
+/// Which names of lines are asked for: the signals that they mention, or all.
+#[derive(Clone, Copy)]
+enum Extent {
+    Signals,
+    All,
+}
 
 /// Appends the signals of pairs.
 fn add_actuals(alloc: Global, names: &mut Names, pairs: &[&[u8]]) -> Result<(), AllocError>
@@ -95,28 +103,56 @@ fn add_named(
     }
 }
 
-/// Appends the signals of a line.
-fn add_signals(alloc: Global, names: &mut Names, text: &[u8], line: &Line) -> Result<(), AllocError>
-    ensures { OnOk result (names.new ≡ names.old ++ signals_on (entry_at text.now line.now)) }
+/// Appends the names of a line that are asked for, by its words after the first; it is no instance.
+fn add_as(
+    alloc: Global,
+    names: &mut Names,
+    extent: Extent,
+    kind: Keyword,
+    words: &[&[u8]],
+) -> Result<(), AllocError>
+    ensures { OnOk result (names.new ≡ names.old ++ named_as extent kind (texts words.now)) }
 {
-    let words = texts_at(alloc, text, line.words.as_slice())?;
-    let others = other_words(words.as_slice());
-    if line_kind::is_instance(text, line) {
-        return add_pairs(alloc, names, other_words(others));
+    match extent {
+        Extent::Signals => add_mentioned(alloc, names, kind, words),
+        Extent::All => add_named(alloc, names, kind, words),
     }
-    add_mentioned(alloc, names, kind_at(text, line), others)
 }
 
-/// Appends all names of a line.
-fn add_line(alloc: Global, names: &mut Names, text: &[u8], line: &Line) -> Result<(), AllocError>
-    ensures { OnOk result (names.new ≡ names.old ++ names_on (entry_at text.now line.now)) }
+/// Appends the names of a line that are asked for.
+fn add_line(
+    alloc: Global,
+    names: &mut Names,
+    extent: Extent,
+    text: &[u8],
+    line: &Line,
+) -> Result<(), AllocError>
+    ensures { OnOk result (names.new
+        ≡ names.old ++ named_on extent (entry_at text.now line.now)) }
 {
     let words = texts_at(alloc, text, line.words.as_slice())?;
     let others = other_words(words.as_slice());
     if line_kind::is_instance(text, line) {
         return add_pairs(alloc, names, other_words(others));
     }
-    add_named(alloc, names, kind_at(text, line), others)
+    add_as(alloc, names, extent, kind_at(text, line), others)
+}
+
+/// Appends the names of lines that are asked for.
+fn add_lines(
+    alloc: Global,
+    names: &mut Names,
+    extent: Extent,
+    text: &[u8],
+    lines: &[Line],
+) -> Result<(), AllocError>
+    ensures { OnOk result (names.new ≡ names.old
+        ++ flat_map (named_on extent) (lines_at text.now lines.now)) }
+{
+    for line in lines {
+        add_line(alloc, names, extent, text, line)?;
+    }
+    Ok(())
 }
 
 /// Names, each once, in the order of their first mention.
@@ -128,46 +164,14 @@ pub fn each_once(alloc: Global, names: &[Name]) -> Result<Names, AllocError>
     Ok(once)
 }
 
-/// Appends the signals of lines.
-fn add_all_signals(
-    alloc: Global,
-    names: &mut Names,
-    text: &[u8],
-    lines: &[Line],
-) -> Result<(), AllocError>
-    ensures { OnOk result (names.new ≡ names.old
-        ++ flat_map signals_on (lines_at text.now lines.now)) }
-{
-    for line in lines {
-        add_signals(alloc, names, text, line)?;
-    }
-    Ok(())
-}
-
 /// The signals of a model, each once, in file order.
 #[tactic(auto, unfolding(crate::specs::Made::signals_in))]
 pub fn signals_in(alloc: Global, text: &[u8], lines: &[Line]) -> Result<Names, AllocError>
     ensures { IfOk result (λ names. names ≡ signals_in (lines_at text.now lines.now)) }
 {
     let mut names = Sequence::new(alloc);
-    add_all_signals(alloc, &mut names, text, lines)?;
+    add_lines(alloc, &mut names, Extent::Signals, text, lines)?;
     each_once(alloc, names.as_slice())
-}
-
-/// Appends all names of lines.
-fn add_all_names(
-    alloc: Global,
-    names: &mut Names,
-    text: &[u8],
-    lines: &[Line],
-) -> Result<(), AllocError>
-    ensures { OnOk result (names.new ≡ names.old
-        ++ flat_map names_on (lines_at text.now lines.now)) }
-{
-    for line in lines {
-        add_line(alloc, names, text, line)?;
-    }
-    Ok(())
 }
 
 /// Whether a line lists ports.
@@ -193,7 +197,7 @@ fn add_part_line(
     if lists_ports(text, line) {
         return Ok(());
     }
-    add_line(alloc, names, text, line)
+    add_line(alloc, names, Extent::All, text, line)
 }
 
 /// Appends all names of the lines of a don't-care part.
@@ -212,22 +216,18 @@ fn add_part_names(
     Ok(())
 }
 
-/// The lines of a model after its body.
-#[tactic(auto, using(std::proofs::lemmas::List::drop_min, std::proofs::lemmas::Grind::common_steps))]
-fn rest_of<'l>(body: &[Line], lines: &'l [Line]) -> &'l [Line]
-    ensures { result.now ≡ drop (length body.now) lines.now }
-{
-    &lines[body.len().min(lines.len())..]
-}
-
 /// All names of the model at an index, with those of its don't-care part.
 pub fn names_in(alloc: Global, file: &File<'_>, place: usize) -> Result<Names, AllocError>
     ensures { IfOk result (λ names. names ≡ names_in (slice_index_or file.now.models place [])) }
 {
-    let body = file.body(place);
-    let rest = rest_of(body, file.lines(place));
     let mut names = Sequence::new(alloc);
-    add_all_names(alloc, &mut names, file.text(), body)?;
-    add_part_names(alloc, &mut names, file.text(), rest)?;
+    add_lines(
+        alloc,
+        &mut names,
+        Extent::All,
+        file.text(),
+        file.body(place),
+    )?;
+    add_part_names(alloc, &mut names, file.text(), part(file, place))?;
     Ok(names)
 }

@@ -4,7 +4,7 @@
 //! the project's own (`models_fault` of `specs/Reader.antt`): how models nest, their ports and
 //! sizes, the names that are made for signals.
 
-ghost use Rattle.std.specs.Prelude.{◌≡◌, ◌+◌, map, length, slice_index_or, option_copied, IfOk};
+ghost use Rattle.std.specs.Prelude.{◌≡◌, ◌+◌, map, length, option_copied, IfOk};
 ghost use Rattle.std.specs.List.{range_with_len};
 ghost use Rattle.circuit_checks.specs.Graphs.{IsGraph};
 ghost use Rattle.blif_models.specs.Models.{model_graph, is_used};

@@ -5,7 +5,7 @@
 //! the fault that `specs/Reader.antt` defines, by the marks of the models that are used and the
 //! table of the ports of all models. The time is linear in the lines; no clause says so.
 
-ghost use Rattle.std.specs.Prelude.{◌≡◌, ◌+◌, ◌++◌, ◌||◌, ◌==◌, false, option_copied, slice_get, length, IfOk, OnOk};
+ghost use Rattle.std.specs.Prelude.{◌≡◌, ◌+◌, ◌||◌, ◌==◌, false, option_copied, slice_get, length, IfOk, OnOk};
 ghost use Rattle.std.specs.List.{list_all};
 ghost use Rattle.std.specs.Option.{option_and_then};
 ghost use Rattle.circuit_model.specs.Names.{has};
@@ -58,7 +58,8 @@ impl Listed {
     /// Adds the ports of a line.
     fn add(&mut self, alloc: Global, text: &[u8], line: &Line) -> Result<(), AllocError>
         ensures { OnOk result (self.new ≡ listed_with self.old
-            (kind_of (entry_at text.now line.now)) (other_words (entry_at text.now line.now).words)) }
+            (kind_of (entry_at text.now line.now))
+            (other_words (entry_at text.now line.now).words)) }
     {
         let words = texts_at(alloc, text, line.words.as_slice())?;
         let kind = keyword_of(first_word(words.as_slice()));

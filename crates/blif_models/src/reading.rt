@@ -7,13 +7,12 @@
 //! `specs/Reader.antt`.
 
 ghost use Rattle.std.specs.Prelude.{◌≡◌, ◌<◌, ◌+◌, Ok, [], ◌∷◌, map, length, option_copied, IfOk};
-ghost use Rattle.std.specs.List.{range_with_len};
 ghost use Rattle.sis_text.specs.Entries.{entry_at};
 ghost use Rattle.circuit_checks.specs.Graphs.{IsGraph};
 ghost use Rattle.blif_lines.specs.Lines.{first_of};
 ghost use Rattle.blif_lines.specs.Reader.{first_fault, read_lines as read_alone, Reads};
 ghost use Rattle.blif_lines.specs.Steps.{take_entries, no_lines};
-ghost use Rattle.blif_models.specs.Models.{model_graph, is_used};
+ghost use Rattle.blif_models.specs.Models.{model_graph};
 ghost use Rattle.blif_models.specs.PortFaults.{AreUsed};
 ghost use Rattle.blif_models.specs.PortTables.{table_at};
 ghost use Rattle.blif_models.specs.Sizes.{sizes_at};
@@ -57,23 +56,6 @@ fn uses_of(alloc: Global, file: &File<'_>) -> Result<Uses, AllocError>
     Ok(Uses { graph, used })
 }
 
-/// Reads the first model with each instance in its place.
-fn read_put_in(alloc: Global, models: &Models<'_, '_>, used: &[bool]) -> Result<Content, ReadFault>
-    requires tables { AreRight models.now }
-    requires ports { models.now.ports.now ≡ table_at (library_in models.now)
-        (models_in models.now) (MAX_DEPTH + 1) }
-    requires used { MarksUsed (models_in models.now) used.now }
-    requires first { 0 < length (models_in models.now) }
-    ensures { Reads result (read_alone (library_in models.now) (flat_model
-        (library_in models.now) (models_in models.now) (first_in (models_in models.now)))) }
-{
-    let draft = Draft::new(alloc)?;
-    // Wrapped in a `Whole`, so that dropping it is one call.
-    let mut draft = Whole { it: draft };
-    take_first(alloc, models, used, &mut draft.it)?;
-    finish(alloc, draft)
-}
-
 /// Reads the first model with each instance in its place, once the names made for their signals are
 /// checked.
 fn read_made(alloc: Global, models: &Models<'_, '_>, used: &[bool]) -> Result<Content, ReadFault>
@@ -87,7 +69,11 @@ fn read_made(alloc: Global, models: &Models<'_, '_>, used: &[bool]) -> Result<Co
         (models_in models.now) (first_in (models_in models.now))))) }
 {
     check_made(alloc, models)?;
-    read_put_in(alloc, models, used)
+    let draft = Draft::new(alloc)?;
+    // Wrapped in a `Whole`, so that dropping it is one call.
+    let mut draft = Whole { it: draft };
+    take_first(alloc, models, used, &mut draft.it)?;
+    finish(alloc, draft)
 }
 
 /// The tables are right if they are those that are made: a law, which computes nothing.

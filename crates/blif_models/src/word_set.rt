@@ -1,7 +1,7 @@
 //! A set of words of a text that keeps the order of insertion. Words are looked up by their bytes,
 //! which are not copied.
 
-ghost use Rattle.std.specs.Prelude.{◌≡◌, true, not, [], ◌∷◌, IfOk, OnOk};
+ghost use Rattle.std.specs.Prelude.{◌≡◌, true, [], ◌∷◌, OnOk};
 ghost use Rattle.circuit_model.specs.Names.{has};
 ghost use Rattle.circuit_tables.specs.Listing.{names_with};
 ghost use Rattle.line_words.specs.LineWords.{texts};

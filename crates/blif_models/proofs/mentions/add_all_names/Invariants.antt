@@ -1,7 +1,0 @@
-use Rattle.std.proofs.Common.{◌≡◌, ◌++◌, flat_map, take}
-use Rattle.blif_models.specs.Files.{lines_at}
-use Rattle.blif_models.specs.Made.{names_on}
-use Rattle.blif_models.proofs.mentions.add_all_names.Given as goal
-
-abbrev pub invariant-loop-line : goal.invariant-loop-line
-invariant-loop-line l = l.names ≡ l.fn.names ++ flat_map names_on (lines_at l.text (take l.line-index l.lines))

@@ -1,8 +1,0 @@
-use Rattle.blif_models.specs.Made.{signals_on}
-use Rattle.blif_models.proofs.LineNames.{more_names}
-use Rattle.blif_models.proofs.mentions.add_all_signals.Goals as goal
-
-pub loop-line-preserved : goal.loop-line-preserved
-loop-line-preserved c =
-    more_names signals_on c.args.text.now c.args.lines.now c.loop-line.line-index c.line-item.result c.args.names.now c.loop-line.names c.add_signals.new.names c.loop-line-test.true c.line-item.is c.in_ok-add_signals.ensures
-    c.loop-line.invariant
