@@ -18,7 +18,8 @@ use Rattle.net_decomp.proofs.Bounded.{HadRoom, step_room}
 use Rattle.net_work.specs.Placed.{Placed, circuit_of, table_at}
 use Rattle.net_decomp.specs.Decompose.{HasDecomposed}
 use Rattle.net_decomp.specs.Cursor.{IsPartedAt, IsOverAt, AreDone, IsAlong}
-use Rattle.net_decomp.proofs.Slots.{among, all_standing}
+use Rattle.net_work.proofs.Indexed.{place_within, all_standing}
+use Rattle.net_decomp.proofs.Slots.{among}
 
 -- the table at an index is next, if those before it are done
 next_at_place : (rule : Rule) (place : ℕ) (now : Placed) (table : Table) (parting : Parting) → AreDone rule place now.slots → table_at now.slots place ≡ Some table → IsDecomposable rule table parting
@@ -111,7 +112,7 @@ along_full rule place before now along full = record {
 pub along_all : (rule : Rule) (place : ℕ) (before now : Placed) → IsAlong rule place before now → length now.slots ≤ place → IsDecomposed rule (circuit_of before) (circuit_of now)
 along_all rule place before now along past = record {
   reached = along.reached;
-  done = all_standing (IsDone rule) now.slots (λ at table below here. along.done at table (omega (arith, past, below)) here);
+  done = all_standing (IsDone rule) now.slots (λ at table here. along.done at table (let within : at < length now.slots = place_within now.slots at table here in omega (arith, past, within)) here);
 }
 
 pub full_told : (rule : Rule) (old now : Circuit) (fault : AddFault) → now ≡ old → (fault ≡ NodeLimit → IsFull rule now) → HasDecomposed rule old (Err fault)

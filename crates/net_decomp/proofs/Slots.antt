@@ -1,14 +1,9 @@
--- Tables by index: a list of them after the last index, that of an index among all, and one written
--- over that of its signal.
-use Rattle.std.proofs.Common.{◌≡◌, ℕ, ◌<◌, zero, suc, Bool, true, cond, Option, Some, None, List, [], ◌∷◌, ◌++◌, map, length, set, refl, sym, ap, ◌∙◌, subst, arith}
+-- Tables by index: others added after the last index, one written at an index, and that of an index
+-- among all.
+use Rattle.std.proofs.Common.{◌≡◌, ℕ, ◌<◌, zero, suc, Option, Some, None, List, [], ◌∷◌, ◌++◌, map, length, set, refl, ap, arith}
 use Rattle.std.specs.List.{AllByRecursion}
-use Rattle.std.proofs.lemmas.Bool.{false≢true}
 use Rattle.std.proofs.lemmas.Option.{none-some, same_Some}
-use Rattle.circuit_model.specs.Names.{has, all_different}
-use Rattle.circuit_model.specs.Soundness.{outputs_of}
 use Rattle.circuit_model.specs.declared.circuit.Table.{Table}
-use Rattle.circuit_laws.specs.Edits.{replaced}
-use Rattle.circuit_laws.proofs.Names.{name_is, name_not, different_head, different_tail, has_head, has_tail}
 use Rattle.net_core.proofs.Lookups.{get_set_same, get_set_other}
 use Rattle.net_work.specs.Placed.{standing, joined, table_at}
 use Rattle.net_work.proofs.Standing.{place_there}
@@ -30,11 +25,6 @@ pub table_before : (slots others : List (Option Table)) (at : ℕ) → at < leng
 table_before [] others at below = absurd (omega (arith, below))
 table_before (slot ∷ slots) others zero below = refl
 table_before (slot ∷ slots) others (suc at) below = table_before slots others at (omega (arith, below))
-
-pub table_within : (slots : List (Option Table)) (at : ℕ) (table : Table) → table_at slots at ≡ Some table → at < length slots
-table_within [] at table there = absurd (none-some table there)
-table_within (slot ∷ slots) zero table there = omega arith
-table_within (slot ∷ slots) (suc at) table there = let below : at < length slots = table_within slots at table there in omega (arith, below)
 
 -- the table at an index that is written, and those at others
 pub table_set : (slots : List (Option Table)) (place : ℕ) (old new : Table) → table_at slots place ≡ Some old → table_at (set slots place (Some new)) place ≡ Some new
@@ -71,36 +61,3 @@ among P (Some first ∷ slots) (suc place) table there each =
       is = ap (λ (tables : List Table). first ∷ tables) rest.is;
       all = (each 0 first (omega arith) refl, rest.all);
     }
-
--- what holds at each index holds of all tables
-pub all_standing : (P : Table → Type 0) (slots : List (Option Table)) → ((at : ℕ) (table : Table) → at < length slots → table_at slots at ≡ Some table → P table) → AllByRecursion P (standing slots)
-unfolding standing
-all_standing P [] each = tt
-all_standing P (None ∷ slots) each = all_standing P slots (λ at table below here. each (suc at) table (omega (arith, below)) here)
-all_standing P (Some first ∷ slots) each =
-    (each 0 first (omega arith) refl, all_standing P slots (λ at table below here. each (suc at) table (omega (arith, below)) here))
-
--- a table written over that of its signal
-stands_named : (slots : List (Option Table)) (place : ℕ) (table : Table) → table_at slots place ≡ Some table → has (outputs_of (standing slots)) table.output ≡ true
-unfolding standing
-stands_named [] place table there = absurd (none-some table there)
-stands_named (None ∷ slots) zero table there = absurd (none-some table there)
-stands_named (Some first ∷ slots) zero table there =
-    subst (λ (t : Table). has (first.output ∷ outputs_of (standing slots)) t.output ≡ true) (same_Some first table there) (has_head first.output (outputs_of (standing slots)))
-stands_named (None ∷ slots) (suc place) table there = stands_named slots place table there
-stands_named (Some first ∷ slots) (suc place) table there = has_tail first.output (outputs_of (standing slots)) table.output (stands_named slots place table there)
-
-pub standing_set : (slots : List (Option Table)) (place : ℕ) (old new : Table) → all_different (outputs_of (standing slots)) ≡ true → table_at slots place ≡ Some old → new.output ≡ old.output
-    → standing (set slots place (Some new)) ≡ replaced (standing slots) new
-unfolding standing replaced
-standing_set [] place old new different there same = absurd (none-some old there)
-standing_set (None ∷ slots) zero old new different there same = absurd (none-some old there)
-standing_set (Some first ∷ slots) zero old new different there same =
-    sym (ap (λ (b : Bool). cond b (new ∷ standing slots) (first ∷ replaced (standing slots) new)) (name_is new.output first.output (same ∙ ap (λ (t : Table). t.output) (sym (same_Some first old there)))))
-standing_set (None ∷ slots) (suc place) old new different there same = standing_set slots place old new different there same
-standing_set (Some first ∷ slots) (suc place) old new different there same =
-    ap (λ (rest : List Table). first ∷ rest) (standing_set slots place old new (different_tail first.output (outputs_of (standing slots)) different) there same)
-    ∙ sym (ap (λ (b : Bool). cond b (new ∷ standing slots) (first ∷ replaced (standing slots) new))
-    (name_not new.output first.output (λ (e : new.output ≡ first.output).
-    false≢true (sym (different_head first.output (outputs_of (standing slots)) different)
-    ∙ subst (λ (n : List ℕ). has (outputs_of (standing slots)) n ≡ true) (sym same ∙ e) (stands_named slots place old there)))))

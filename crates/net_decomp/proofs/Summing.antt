@@ -26,6 +26,7 @@ use Rattle.net_core.specs.Tables.{characters_of}
 use Rattle.net_core.proofs.NewNames.{new_is_free}
 use Rattle.net_core.proofs.Rows.{all_characters_back}
 use Rattle.net_work.specs.Placed.{Placed, standing, circuit_of, table_at, with_slot, with_last}
+use Rattle.net_work.proofs.Indexed.{place_within, drives}
 use Rattle.net_work.proofs.Standing.{place_there, outputs_set}
 use Rattle.net_decomp.specs.Cursor.{AreDone, IsAlong, ArePut, IsTurned, IsPartedAt, weight}
 use Rattle.net_decomp.specs.Decomposed.{IsFull}
@@ -38,9 +39,9 @@ use Rattle.net_decomp.specs.declared.sums.Sum.{Sum}
 use Rattle.net_decomp.proofs.Along.{along_begin, along_more, along_over}
 use Rattle.net_decomp.proofs.Bounded.{tidied_within}
 use Rattle.net_decomp.proofs.Putting.{put_begin, put_more, last_circuit}
-use Rattle.net_decomp.proofs.Slots.{table_before, table_within, table_set}
+use Rattle.net_decomp.proofs.Slots.{table_before, table_set}
 use Rattle.net_decomp.proofs.SumSteps.{HasOnePart, IsSumStep, drawn, drawn_long, last_literal, literals_due, literals_step, rest_differ}
-use Rattle.net_decomp.proofs.Turning.{placed_drives, turned_parted}
+use Rattle.net_decomp.proofs.Turning.{turned_parted}
 use Rattle.sis_base.specs.declared.limits.TheConstants.{MAX_NODES}
 
 -- a write over another write, and a write of the value that is there
@@ -104,7 +105,7 @@ sum_begin rule place sum now sound done tidy at = record {
   table = at.table;
   there = at.there;
   different = ap all_different at.is.names ∙ parts.once;
-  known = subst (AllByRecursion (IsGiven now)) (sym at.is.names) (all_from_has (IsGiven now) at.table.inputs (λ input among. live_reads (circuit_of now) sound input (driver_reads (standing now.slots) at.table.output at.table input drives among)));
+  known = subst (AllByRecursion (IsGiven now)) (sym at.is.names) (all_from_has (IsGiven now) at.table.inputs (λ input among. live_reads (circuit_of now) sound input (driver_reads (standing now.slots) at.table.output at.table input driven among)));
   below = subst (λ (n : ℕ). AllByRecursion (IsBelow n) sum.literals.items) (sym width) at.is.below;
   differ = ap rows_differ (sym rows_are) ∙ parts.differ;
   along = subst (IsAlong rule place now) (sym here) (along_begin rule place now sound done);
@@ -114,8 +115,8 @@ sum_begin rule place sum now sound done tidy at = record {
     parts : IsTidy at.table
     parts = tidy_parts at.table (tidy at.table at.there)
 
-    drives : driver (standing now.slots) at.table.output ≡ Some at.table
-    drives = placed_drives now place at.table sound at.there
+    driven : driver (standing now.slots) at.table.output ≡ Some at.table
+    driven = drives now place at.table sound at.there
 
     width : length sum.names ≡ length at.table.inputs
     width = ap length at.is.names
@@ -131,7 +132,7 @@ sum_begin rule place sum now sound done tidy at = record {
         ap (λ (rows : List (List Tri)). tidied (record { inputs = sum.names; output = at.table.output; rows = rows; phase = sum.phase })) (sym rows_are)
         ∙ ap (λ (names : List (List ℕ)). tidied (record { inputs = names; output = at.table.output; rows = at.table.rows; phase = sum.phase })) at.is.names
         ∙ ap (λ (phase : Bool). tidied (record { inputs = at.table.inputs; output = at.table.output; rows = at.table.rows; phase = phase })) at.is.phase
-        ∙ tidied_same at.table (driver_all IsShaped (standing now.slots) sound.shaped at.table.output at.table drives).0 (tidy at.table at.there)
+        ∙ tidied_same at.table (driver_all IsShaped (standing now.slots) sound.shaped at.table.output at.table driven).0 (tidy at.table at.there)
 
     here : turned_to place now at.table sum.names sum.phase sum.literals.items ≡ now
     here =
@@ -221,7 +222,7 @@ module _ (products most place : ℕ) (phase : Bool) (before now : Placed) (names
       put = put;
       set =
           ap (λ (slots : List (Option Table)). record now { slots = slots })
-          (sym (set_over now.slots (Some made ∷ []) place (Some table) (Some rewritten) (table_within now.slots place on.table on.there))
+          (sym (set_over now.slots (Some made ∷ []) place (Some table) (Some rewritten) (place_within now.slots place on.table on.there))
           ∙ ap (λ (t : Table). set (set now.slots place (Some table) ++ Some made ∷ []) place (Some t)) (sym step.rest_is));
       bounded = subst IsBounded (sym step.rest_is) (sum_bounded (names ++ name ∷ []) on.table.output phase left (omega (arith, left_many)) (omega (arith, longer, few)) left_short);
     }
@@ -251,7 +252,7 @@ module _ (products most place : ℕ) (phase : Bool) (before now : Placed) (names
     after : IsSumOn rule place phase before (names ++ name ∷ []) left (with_last now made)
     after = record {
       table = on.table;
-      there = table_before now.slots (Some made ∷ []) place (table_within now.slots place on.table on.there) ∙ on.there;
+      there = table_before now.slots (Some made ∷ []) place (place_within now.slots place on.table on.there) ∙ on.there;
       different = one_more names name on.different free;
       known = known_more;
       below = below_more;

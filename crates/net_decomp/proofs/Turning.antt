@@ -5,9 +5,7 @@ use Rattle.std.proofs.lemmas.Bool.{lt-ltb, le-ltb, cases_lt}
 use Rattle.std.proofs.lemmas.List.{length-map, nil_from_length}
 use Rattle.std.proofs.lemmas.Option.{same_Some}
 use Rattle.sis_base.specs.Rows.{HasWidth}
-use Rattle.circuit_model.specs.Names.{all_different}
-use Rattle.circuit_model.specs.Values.{driver}
-use Rattle.circuit_model.specs.Soundness.{outputs_of, IsSound}
+use Rattle.circuit_model.specs.Soundness.{IsSound}
 use Rattle.circuit_model.specs.declared.circuit.Table.{Table}
 use Rattle.circuit_model.specs.declared.circuit.Circuit.{Circuit}
 use Rattle.circuit_laws.specs.Edits.{with_tables, with_replaced}
@@ -21,34 +19,28 @@ use Rattle.net_decomp.specs.Partings.{Parting, rows_of, parted_table, ArePartsAd
 use Rattle.net_decomp.specs.Rules.{IsDecomposable}
 use Rattle.net_decomp.specs.declared.rule.Rule.{Rule}
 use Rattle.net_decomp.proofs.Values.{due_keeps}
-use Rattle.net_decomp.proofs.Adding.{driver_among, parts_hold}
+use Rattle.net_decomp.proofs.Adding.{parts_hold}
 use Rattle.net_decomp.proofs.PartedSteps.{parted_output, parted_tidy}
 use Rattle.net_decomp.proofs.Bounded.{replaced_nodes, parted_within, with_replaced_all}
 use Rattle.net_work.specs.Placed.{Placed, standing, circuit_of, table_at}
 use Rattle.net_decomp.specs.Cursor.{ArePut, IsTurned, IsPartedAt, HasRoomFor, row_count, weight}
-use Rattle.net_decomp.proofs.Slots.{standing_behind, table_before, table_within, table_set, table_other, among, standing_set}
+use Rattle.net_work.proofs.Indexed.{place_within, drives, standing_set}
+use Rattle.net_decomp.proofs.Slots.{standing_behind, table_before, table_set, table_other}
 use Rattle.net_decomp.proofs.Putting.{put_nodes, put_names}
 use Rattle.net_decomp.proofs.Falling.{due_falls}
 use Rattle.sis_base.specs.declared.limits.TheConstants.{MAX_NODES}
-
--- the table at an index drives its signal
-pub placed_drives : (now : Placed) (place : ℕ) (table : Table) → IsSound (circuit_of now) → table_at now.slots place ≡ Some table → driver (standing now.slots) table.output ≡ Some table
-placed_drives now place table sound there =
-    let at = among (λ (other : Table). Unit {0}) now.slots place table there (λ at other below here. tt) in
-    subst (λ (tables : List Table). driver tables table.output ≡ Some table) (sym at.is)
-    (driver_among at.before at.after table (subst (λ (tables : List Table). all_different (outputs_of tables) ≡ true) at.is (outputs_different (circuit_of now) sound)))
 
 -- the table at an index stays if parts are added after the last one
 pub put_at : (inputs : List (List ℕ)) (parts : List (List (List (Option Bool)))) (names : List (List ℕ)) (place : ℕ) (table : Table) (before now : Placed) → ArePut inputs parts names before now
     → table_at before.slots place ≡ Some table → table_at now.slots place ≡ Some table
 put_at inputs parts names place table before now put there =
     ap (λ (slots : List (Option Table)). table_at slots place) put.slots
-    ∙ table_before before.slots (map Some put.more) place (table_within before.slots place table there) ∙ there
+    ∙ table_before before.slots (map Some put.more) place (place_within before.slots place table there) ∙ there
 
 put_sound : (rule : Rule) (table : Table) (parting : Parting) (place : ℕ) (before now : Placed) → (turned : IsTurned table parting place before now) → IsSound (circuit_of before)
     → table_at before.slots place ≡ Some table → HasWidth (length table.inputs) (rows_of table) → IsDecomposable rule table parting → IsSound (circuit_of turned.between)
 put_sound rule table parting place before now turned sound there wide due =
-    (parts_hold table parting.parts (circuit_of before) turned.names (circuit_of turned.between) sound (placed_drives before place table sound there)
+    (parts_hold table parting.parts (circuit_of before) turned.names (circuit_of turned.between) sound (drives before place table sound there)
     (due_keeps rule table parting wide due).parts (turned.put.added table refl)).extended.change.sound
 
 turned_circuit : (rule : Rule) (table : Table) (parting : Parting) (place : ℕ) (before now : Placed) → (turned : IsTurned table parting place before now) → IsSound (circuit_of before)
@@ -162,7 +154,7 @@ turned_parted rule table parting place before now turned sound there wide due ro
         ap (λ (p : Placed). table_at p.slots at) turned.set
         ∙ table_other turned.between.slots place at (parted_table table turned.names parting.rows) below
         ∙ ap (λ (slots : List (Option Table)). table_at slots at) turned.put.slots
-        ∙ table_before before.slots (map Some turned.put.more) at (let within : place < length before.slots = table_within before.slots place table there in omega (arith, within, below));
+        ∙ table_before before.slots (map Some turned.put.more) at (let within : place < length before.slots = place_within before.slots place table there in omega (arith, within, below));
     tidy = λ left here.
         subst (λ (t : Table). is_tidy t ≡ true) (same_Some (parted_table table turned.names parting.rows) left (sym (turned_at table parting place before now turned there) ∙ here))
         (parted_tidy table turned.names parting.rows
