@@ -1,10 +1,10 @@
 //! The top call: the words of the command line, the run of the script that they ask for, and the
 //! last line.
 //!
-//! It is built of three calls. `run_words` makes the turns and promises how each object went.
-//! `run_counted` adds what each object shows and counts, which follows from the calls by the law of
-//! each trait (`stores_went`, `sources_went`, `sinks_went`). `run_sis` states all of it.
-//! `run_recorded` says what the lists of objects that record their calls contain.
+//! It is built of two calls. `run_words` makes the turns and promises how each object went.
+//! `run_sis` adds what each object shows and counts, which follows from the calls by the law of
+//! each trait (`stores_went`, `sources_went`, `sinks_went`). `run_recorded` says what the lists of
+//! objects that record their calls contain.
 
 ghost use Rattle.std.specs.Prelude.{◌≡◌, IsTrue, None};
 ghost use Rattle.sis_outside.specs.Calls.{Follows, SinkWent, SourceWent, StoreWent};
@@ -146,38 +146,6 @@ fn run_words<S: Store, I: Source, O: Sink, E: Sink>(
     }
 }
 
-/// The same, with what each object shows and counts.
-fn run_counted<S: Store, I: Source, O: Sink, E: Sink>(
-    alloc: Global,
-    words: &[Word],
-    store: &mut S,
-    input: &mut I,
-    out: &mut O,
-    err: &mut E,
-) -> Status
-    ensures call { IsCall (options_of words.now) (Follows S.calls store.old store.new)
-        (Follows I.calls input.old input.new) (Follows O.calls out.old out.new)
-        (Follows E.calls err.old err.new) result }
-    ensures told { IsCall (options_of words.now)
-        (StoreWent S.tells S.files S.faults S.misses store.old store.new)
-        (SourceWent I.tells I.left I.faults input.old input.new)
-        (SinkWent O.tells O.written O.faults out.old out.new)
-        (SinkWent E.tells E.written E.faults err.old err.new) result }
-    ensures fault { result ≡ status.Fault → NamesFault
-        (CountOf (Rose (S.faults store.old) (S.faults store.new)) (Rose (I.faults input.old)
-        (I.faults input.new))
-        (Rose (O.faults out.old) (O.faults out.new)) (Rose (E.faults err.old) (E.faults err.new)))
-        (Follows E.calls err.old err.new) }
-    ensures refused { result ≡ status.Refused → NamesRefusal (Rose (S.misses store.old)
-        (S.misses store.new)) (Follows E.calls err.old err.new) }
-{
-    stores_went::<S>();
-    sources_went::<I>();
-    sinks_went::<O>();
-    sinks_went::<E>();
-    run_words(alloc, words, store, input, out, err)
-}
-
 /// Does all that the program does: reads the words of the command line, runs the script that they
 /// ask for over the files, and writes replies on the output and refusals on the error output. The
 /// script is a file, a word, or the input.
@@ -233,7 +201,11 @@ pub fn run_sis<S: Store, I: Source, O: Sink, E: Sink>(
         → IsTrue (I.tells input.old))
         → Completes (options_of words.now) (S.files store.old) (I.left input.old) result }
 {
-    run_counted(alloc, words, store, input, out, err)
+    stores_went::<S>();
+    sources_went::<I>();
+    sinks_went::<O>();
+    sinks_went::<E>();
+    run_words(alloc, words, store, input, out, err)
 }
 
 /// The same over objects that record their calls: unless memory ran out for a record, it grew by
