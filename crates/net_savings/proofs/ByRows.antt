@@ -31,7 +31,7 @@ use Rattle.net_core.specs.Tables.{named, IsOverInputs}
 use Rattle.net_core.specs.declared.table.CoverTable.{CoverTable}
 use Rattle.net_core.proofs.Rows.{width_of_characters, all_places_back}
 use Rattle.alg_tables.specs.Dividing.{firsts, is_made, quotient, has_no_cube, divided}
-use Rattle.alg_tables.proofs.Divided.{unread_stays}
+use Rattle.alg_tables.proofs.Divided.{unread_stays, undivided_stays}
 use Rattle.alg_tables.proofs.Divisions.{AreApart, rows_of, divisor, found}
 use Rattle.alg_tables.proofs.Quotients.{has_any}
 use Rattle.alg_tables.proofs.Taken.{characters_wide}
@@ -76,7 +76,7 @@ same_many {X} p q (x ∷ xs) same = cases (p x) (q x) (same x (inl refl)) (same_
     cases false true e rest = absurd (false≢true e)
     cases false false e rest = rest
 
-both_ways : (one other : Bool) → (one ≡ true → other ≡ true) → (other ≡ true → one ≡ true) → one ≡ other
+pub both_ways : (one other : Bool) → (one ≡ true → other ≡ true) → (other ≡ true → one ≡ true) → one ≡ other
 both_ways true other to back = sym (to refl)
 both_ways false true to back = back refl
 both_ways false false to back = refl
@@ -220,6 +220,26 @@ module _ (name : List ℕ) (cube : Cube) (table : Table) where
         lost_sum (literals_of_table (divided name true cover table)) (literals_of_table table) (length (found name true cover table)) k (literals_in_all (found name true cover table))
         (literals_in_all (divisor name true cover table)) (closed ∙ ap (λ (n : ℕ). n + (literals_in_all (found name true cover table) + length (found name true cover table))) whole) own
         ∙ ap (λ (n : ℕ). n * k) found_many
+
+    -- what the cube loses if some number is that of the rows that contain it, 0 if it is not read
+    pub cube_lost : (count k : ℕ) → length cube ≡ suc k → (read : Bool) → list_all (λ (literal : Literal). has table.inputs literal.name) cube ≡ read → (read ≡ false → count ≡ 0)
+        → (read ≡ true → count ≡ many (row_contains wanted) (rows_of name true cover table)) → lost_by name cover table ≡ count * k
+    cube_lost count k long false e none many_is =
+        let nothing : 0 ≡ lost_by name cover table = (unread_loss e).0 in
+        subst (λ (n : ℕ). lost_by name cover table ≡ n * k) (sym (none refl)) (let zero_lost : lost_by name cover table ≡ 0 * k = omega (arith, nothing) in zero_lost)
+    cube_lost count k long true e none many_is = cases (has_no_cube (found name true cover table)) refl
+      where
+        none_long : (q : List (List (Option Bool))) → has_no_cube q ≡ true → length q ≡ 0
+        none_long [] h = refl
+        none_long (x ∷ q) h = absurd (false≢true h)
+
+        cases : (b : Bool) → has_no_cube (found name true cover table) ≡ b → lost_by name cover table ≡ count * k
+        cases true h =
+            let nothing : lost_by name cover table ≡ 0 = untouched_lost name cover table (undivided_stays name true cover table h) in
+            let zero_count : count ≡ 0 = many_is refl ∙ (sym found_many ∙ none_long (found name true cover table) h) in
+            subst (λ (n : ℕ). lost_by name cover table ≡ n * k) (sym zero_count) (let zero_lost : lost_by name cover table ≡ 0 * k = omega (arith, nothing) in zero_lost)
+        cases false h =
+            divided_lost k long (record { over = and_from (list_all (λ (literal : Literal). has table.inputs literal.name) cube) true e refl; some = h }) ∙ ap (λ (n : ℕ). n * k) (sym (many_is refl))
 
     -- each row that contains the cube loses its literals but one
     pub rows_loss : (count k lost : ℕ) → length cube ≡ suc k → length table.inputs < MAX_INPUTS → list_all (λ (literal : Literal). has table.inputs literal.name) cube ≡ true

@@ -98,13 +98,13 @@ column : (x : Option Bool) (bit : Bool) → x ≡ None → literal_product x (So
 column None bit e = refl
 column (Some b) bit e = absurd (none-some b (sym e))
 
-first_has : (literal : Literal) (name : List ℕ) (names : List (List ℕ)) (x : Option Bool) (row : List (Option Bool)) → bytes_eq literal.name name ≡ true → x ≡ Some literal.bit
+pub first_has : (literal : Literal) (name : List ℕ) (names : List (List ℕ)) (x : Option Bool) (row : List (Option Bool)) → bytes_eq literal.name name ≡ true → x ≡ Some literal.bit
     → Has literal (cube_over (name ∷ names) (x ∷ row))
 unfolding cube_over literal_from
 first_has literal name names None row same e = absurd (none-some literal.bit e)
 first_has literal name names (Some bit) row same e = inl (ap₂ literal_from (same_name literal.name name same) (sym (same_Some bit literal.bit e)))
 
-later_has : (literal : Literal) (name : List ℕ) (names : List (List ℕ)) (x : Option Bool) (row : List (Option Bool)) → Has literal (cube_over names row) → Has literal (cube_over (name ∷ names) (x ∷ row))
+pub later_has : (literal : Literal) (name : List ℕ) (names : List (List ℕ)) (x : Option Bool) (row : List (Option Bool)) → Has literal (cube_over names row) → Has literal (cube_over (name ∷ names) (x ∷ row))
 unfolding cube_over
 later_has literal name names None row m = m
 later_has literal name names (Some bit) row m = inr m

@@ -19,6 +19,7 @@ pub mod SharersAt
 pub mod Partners
 pub mod KeptLists
 pub mod Refreshed
+pub mod Told
 pub mod NotesKept
 pub mod FirstSaved
 pub mod SameCovers

@@ -1,5 +1,5 @@
 -- What tables lose if they are divided.
-use Rattle.std.proofs.Common.{◌≡◌, ℕ, MatchOption, ◌+◌, ◌≤◌, ◌<◌, ltb, ◌&&◌, Bool, true, false, Option, Some, None, List, [], ◌∷◌, ◌++◌, length, take, get_or, refl, sym, ap, ◌∙◌, subst, inl, inr, arith}
+use Rattle.std.proofs.Common.{◌≡◌, ℕ, ◌+◌, ◌≤◌, ◌<◌, ltb, ◌&&◌, Bool, true, false, Option, Some, None, List, [], ◌∷◌, ◌++◌, length, take, get_or, refl, sym, ap, ◌∙◌, subst, inl, inr, arith}
 use Rattle.std.specs.List.{sum_by, AllByRecursion}
 use Rattle.std.proofs.lemmas.Bool.{false≢true, and_parts, ltb-true, lt-ltb, cases_lt}
 use Rattle.std.proofs.lemmas.List.{take_more}
@@ -21,7 +21,7 @@ use Rattle.net_work.proofs.Indexed.{all_at, all_standing}
 use Rattle.alg_tables.specs.Dividing.{divided, cover_table}
 use Rattle.alg_tables.proofs.Divided.{unread_stays}
 use Rattle.circuit_tables.specs.Tidy.{IsWide}
-use Rattle.net_savings.specs.Saving.{lost_by, lost_of, lost_at, IsNarrowIn, IsLoss, AreLosses, IsSaved}
+use Rattle.net_savings.specs.Saving.{lost_by, lost_of, lost_at, IsNarrowIn, IsLoss, IsSaved}
 use Rattle.net_savings.proofs.Summing.{in_has, sum_places}
 use Rattle.net_savings.proofs.Reading.{divided_reads_name}
 use Rattle.sis_base.specs.declared.limits.TheConstants.{MAX_INPUTS}
@@ -99,24 +99,6 @@ module _ (name : List ℕ) (cover : NamedCover) (slots : List (Option Table)) wh
       cases : (o : Option Table) → table_at slots at ≡ o → IsNarrowIn name cover o
       cases None e = tt
       cases (Some table) e = all_at (IsNarrow name cover) slots all at table e
-
-  -- what the cover saves
-  pub saved_from : (places : List ℕ) (lost found : Option ℕ) (own : ℕ) → AreAll cover slots places → own ≡ literals_of_table (cover_table name cover)
-      → length (cover_table name cover).inputs ≤ MAX_INPUTS → AreLosses name cover slots places lost
-      → MatchOption found ((number : ℕ) → lost ≡ Some number → number ≤ own) (λ more. (lost ≡ Some (more + own)) × (1 ≤ more))
-      → IsSaved (standing slots) name cover found
-  saved_from places lost (Some more) own are is few losses told =
-      let those : AreLosses name cover slots places (Some (more + own)) = subst (AreLosses name cover slots places) told.0 losses in
-      record {
-        narrow = record { added = few; changed = all_narrow places are those.1 };
-        exact = ap (λ (n : ℕ). more + n) (sym is) ∙ (those.0 ∙ all_lost places are);
-        some = told.1;
-      }
-  saved_from places None None own are is few losses told = λ number saving. losses.1 (narrow_there saving.narrow.changed losses.0)
-  saved_from places (Some lost) None own are is few losses told = λ number saving.
-      let bound : lost ≤ own = told lost refl in
-      let sum : lost ≡ sum_by (lost_by name cover) (standing slots) = losses.0 ∙ all_lost places are in
-      absurd (omega (arith, bound, sum, is, saving.exact, saving.some))
 
   pub saved_wide : MAX_INPUTS < length (cover_table name cover).inputs → IsSaved (standing slots) name cover None
   saved_wide many = λ number saving. absurd (omega (arith, many, saving.narrow.added))

@@ -1,11 +1,12 @@
 -- Marks of rows by literals: which rows have all literals of a cube.
-use Rattle.std.proofs.Common.{◌≡◌, ℕ, ◌+◌, ◌<◌, ◌≤◌, zero, suc, ◌&&◌, ◌||◌, if◌then◌else◌, Bool, true, false, Option, Some, None, List, [], ◌∷◌, ◌++◌, map, length, take, get_or, slice_get, replicate, refl, sym, ap, ap₂, ◌∙◌, subst, arith}
+use Rattle.std.proofs.Common.{◌≡◌, ℕ, ◌+◌, ◌<◌, ◌≤◌, zero, suc, ◌&&◌, ◌||◌, if◌then◌else◌, Bool, true, false, Option, Some, None, List, [], ◌∷◌, ◌++◌, cond, map, filter, length, take, get_or, slice_get, replicate, refl, sym, ap, ap₂, ◌∙◌, subst, arith}
 use Rattle.std.specs.Global.{Vec}
 use Rattle.std.specs.List.{list_all, list_any}
 use Rattle.std.proofs.lemmas.List.{take_all, take_more}
 use Rattle.std.proofs.lemmas.Option.{none-some, same_Some}
 use Rattle.net_candidates.specs.Candidates.{same_literal}
 use Rattle.net_candidates.specs.Pairs.{has_all}
+use Rattle.net_candidates.specs.Spots.{many}
 use Rattle.net_candidates.proofs.Keeping.{same_is}
 use Rattle.cover_names.specs.Literals.{Cube}
 use Rattle.cover_names.specs.declared.literal.Literal.{Literal}
@@ -77,13 +78,21 @@ holders_next rows cube i literal d held now below is before now_is =
         sym (all_more (λ (l : Literal). list_any (same_literal l) row) (take i cube) literal)
         ∙ ap (λ (some : Cube). has_all some row) (sym (take_more cube i d below ∙ ap (λ (l : Literal). take i cube ++ l ∷ []) (sym is)))
 
-pub holders_any : (rows : List Cube) (cube : Cube) (i : ℕ) (held : List Bool) → length cube ≤ i → held ≡ map (has_all (take i cube)) rows → list_any (λ (mark : Bool). mark) held ≡ list_any (has_all cube) rows
-holders_any rows cube i held h before =
-    ap (list_any (λ (mark : Bool). mark)) (before ∙ ap (λ (some : Cube). map (has_all some) rows) (take_all i cube h)) ∙ any_map rows
+pub holders_all : (rows : List Cube) (cube : Cube) (i : ℕ) (held : List Bool) → length cube ≤ i → held ≡ map (has_all (take i cube)) rows → held ≡ map (has_all cube) rows
+holders_all rows cube i held h before = before ∙ ap (λ (some : Cube). map (has_all some) rows) (take_all i cube h)
+
+pub any_marked : {X : Type 0} (test : X → Bool) (xs : List X) → list_any (λ (mark : Bool). mark) (map test xs) ≡ list_any test xs
+any_marked test [] = refl
+any_marked test (x ∷ xs) = ap (λ (b : Bool). test x || b) (any_marked test xs)
+
+pub many_marked : {X : Type 0} (test : X → Bool) (xs : List X) → many (λ (mark : Bool). mark) (map test xs) ≡ many test xs
+many_marked test [] = refl
+many_marked {X} test (x ∷ xs) = cases (test x) refl (many_marked test xs)
   where
-    any_map : (xs : List Cube) → list_any (λ (mark : Bool). mark) (map (has_all cube) xs) ≡ list_any (has_all cube) xs
-    any_map [] = refl
-    any_map (x ∷ xs) = ap (λ (b : Bool). has_all cube x || b) (any_map xs)
+    cases : (b : Bool) → test x ≡ b → many (λ (mark : Bool). mark) (map test xs) ≡ many test xs
+        → length (cond b (test x ∷ filter (λ (mark : Bool). mark) (map test xs)) (filter (λ (mark : Bool). mark) (map test xs))) ≡ length (cond b (x ∷ filter test xs) (filter test xs))
+    cases true e rest = ap suc rest
+    cases false e rest = rest
 
 -- ---- marks that are kept for literals
 

@@ -54,8 +54,8 @@ pub(crate) fn sum_of(one: u128, other: u128) -> Result<u128, AllocError>
     }
 }
 
-// The product of two numbers, an error if it is too large.
-fn product_of(one: u128, other: u128) -> Result<u128, AllocError>
+/// The product of two numbers, an error if it is too large.
+pub(crate) fn product_of(one: u128, other: u128) -> Result<u128, AllocError>
     ensures { IfOk result (λ product. product ≡ one * other) }
 {
     match one.checked_mul(other) {
@@ -133,8 +133,8 @@ fn add_row(
     Ok(is_new)
 }
 
-// Whether rows are distinct.
-fn are_distinct<R: Row>(alloc: Global, rows: &[R]) -> Result<bool, AllocError>
+/// Whether rows are distinct.
+pub(crate) fn are_distinct<R: Row>(alloc: Global, rows: &[R]) -> Result<bool, AllocError>
     ensures { IfOk result (λ distinct. IsTrue distinct → AreOnce (map R.literals rows.now)) }
 {
     let mut seen = IndexSet::new(alloc);

@@ -36,6 +36,7 @@ mod owned;
 mod ranking;
 mod refreshing;
 mod renewing;
+mod rows;
 mod saved;
 mod saving;
 mod sharing;

@@ -6,6 +6,7 @@ ghost use Rattle.circuit_model.specs.Soundness.{IsSound};
 ghost use Rattle.net_readers.specs.Fanouts.{is_in};
 ghost use Rattle.net_core.specs.Fresh.{IsNewName};
 ghost use Rattle.net_work.specs.Placed.{circuit_of};
+ghost use Rattle.net_savings.specs.Indexed.{IsIndex};
 ghost use Rattle.net_savings.specs.Listing.{IsListed, IsUnlisted};
 ghost use Rattle.net_savings.specs.Savings.{AreTrue};
 
@@ -15,6 +16,7 @@ use crate::fault::SavingsFault;
 use crate::own::own_made;
 use crate::owned::{OwnLists, is_listed, put_list};
 use crate::renewing::note_all;
+use crate::rows::RowIndex;
 use crate::sharing::shared_here;
 use circuit_model::Name;
 use cube_cover::Row;
@@ -26,6 +28,7 @@ use std::alloc::Global;
 fn list_place<R: Row>(
     alloc: Global,
     work: &WorkingNetwork<R>,
+    index: &RowIndex,
     rule: Rule,
     name: &Name,
     ranked: &mut RankedCovers,
@@ -34,6 +37,7 @@ fn list_place<R: Row>(
 ) -> Result<(), SavingsFault>
     requires sound { IsSound (circuit_of work.now) }
     requires free { IsNewName (circuit_of work.now) name.now }
+    requires index { IsIndex work.now index.now }
     requires known { AreTrue rule work.now ranked.old own.old.items }
     ensures known { OnOk result (AreTrue rule work.now ranked.new own.new.items) }
     ensures stays { OnOk result ((at : ℕ) → IsListed own.old.items at → IsListed own.new.items at) }
@@ -44,9 +48,9 @@ fn list_place<R: Row>(
         return Ok(());
     }
     let covers = own_made(alloc, work, rule, place)?;
-    note_all(alloc, work, name, ranked, covers.as_slice())?;
+    note_all(alloc, work, index, name, ranked, covers.as_slice())?;
     let shared = shared_here(alloc, work, rule, own, place)?;
-    note_all(alloc, work, name, ranked, shared.as_slice())?;
+    note_all(alloc, work, index, name, ranked, shared.as_slice())?;
     let listed = CoverSet::of(alloc, covers)?;
     put_list(own, place, listed);
     Ok(())
@@ -57,6 +61,7 @@ fn list_place<R: Row>(
 pub(crate) fn list_places<R: Row>(
     alloc: Global,
     work: &WorkingNetwork<R>,
+    index: &RowIndex,
     rule: Rule,
     name: &Name,
     ranked: &mut RankedCovers,
@@ -65,6 +70,7 @@ pub(crate) fn list_places<R: Row>(
 ) -> Result<(), SavingsFault>
     requires sound { IsSound (circuit_of work.now) }
     requires free { IsNewName (circuit_of work.now) name.now }
+    requires index { IsIndex work.now index.now }
     requires known { AreTrue rule work.now ranked.old own.old.items }
     ensures known { OnOk result (AreTrue rule work.now ranked.new own.new.items) }
     ensures stays { OnOk result ((at : ℕ) → IsListed own.old.items at → IsListed own.new.items at) }
@@ -73,7 +79,7 @@ pub(crate) fn list_places<R: Row>(
     ensures stopped { IfErr result (IsUnlisted rule (circuit_of work.now)) }
 {
     for place in places {
-        list_place(alloc, work, rule, name, ranked, own, *place)?;
+        list_place(alloc, work, index, rule, name, ranked, own, *place)?;
     }
     Ok(())
 }

@@ -1,17 +1,19 @@
 //! Rows, and for each of their literals which of them have it.
 //!
 //! Source: the project's own. Whether a row has all literals of a cube is read off the marks of its
-//! literals, one list of marks after the other. Callers rely on `has_holder` alone: the answer is
-//! exact. That each literal of the rows is marked beforehand no clause says.
+//! literals, one list of marks after the other. Callers rely on `has_holder` and `count_holders`:
+//! the answers are exact. Which literals of the rows are marked beforehand no clause says.
 
 ghost use Rattle.std.specs.Prelude.{◌≡◌, ◌&&◌, Bool, true, Some, map, replicate, slice_get, if◌then◌else◌, IfOk, OnOk};
 ghost use Rattle.std.specs.List.{list_any};
 ghost use Rattle.indexmap.specs.IndexMap.{get};
 ghost use Rattle.net_candidates.specs.Candidates.{same_literal};
 ghost use Rattle.net_candidates.specs.Pairs.{has_all};
+ghost use Rattle.net_candidates.specs.Spots.{many};
 ghost use Rattle.cover_names.specs.declared.literal.Literal.{Literal};
 ghost use Rattle.net_savings.specs.Meeting.{set_at, in_both, AreMarks};
 
+use circuit_model::Name;
 use cover_names::{Cube, Literal};
 use indexmap::IndexMap;
 use sis_base::Copied;
@@ -121,6 +123,28 @@ fn mark_rows(
     Ok(())
 }
 
+// Marks the rows by both literals of some names.
+fn mark_names(
+    alloc: Global,
+    rows: &[Cube],
+    marks: &mut IndexMap<Literal, Vec<bool>>,
+    names: &[Name],
+) -> Result<(), AllocError>
+    requires { AreMarks rows.now (get same_literal marks.old) }
+    ensures { OnOk result (AreMarks rows.now (get same_literal marks.new)) }
+{
+    for name in names {
+        for bit in [false, true] {
+            let literal = Literal {
+                name: name.copy(alloc)?,
+                bit,
+            };
+            mark_literal(alloc, rows, marks, &literal)?;
+        }
+    }
+    Ok(())
+}
+
 // Whether a mark is set, if there is one.
 fn is_set(marks: &[bool], place: usize) -> bool
     ensures { result ≡ set_at (slice_get marks.now place) }
@@ -157,6 +181,13 @@ fn is_some_set(marks: &[bool]) -> bool
     marks.iter().any(|mark| *mark)
 }
 
+// The number of marks that are set.
+fn count_set(marks: &[bool]) -> usize
+    ensures { result ≡ many (λ (mark : Bool). mark) marks.now }
+{
+    marks.iter().filter(|mark| **mark).count()
+}
+
 // So many marks that are set.
 fn set_marks(alloc: Global, count: usize) -> Result<Vec<bool>, AllocError>
     ensures { IfOk result (λ marks. marks.items ≡ replicate count true) }
@@ -171,6 +202,19 @@ impl RowMarks {
     {
         let mut marks = IndexMap::new(alloc);
         mark_rows(alloc, rows.as_slice(), &mut marks)?;
+        Ok(RowMarks { rows, marks })
+    }
+
+    /// Rows, marked by the literals of some names alone.
+    pub(crate) fn by_names(
+        alloc: Global,
+        rows: Vec<Cube>,
+        names: &[Name],
+    ) -> Result<RowMarks, AllocError>
+        ensures { IfOk result (λ made. made ≡ rows.items) }
+    {
+        let mut marks = IndexMap::new(alloc);
+        mark_names(alloc, rows.as_slice(), &mut marks, names)?;
         Ok(RowMarks { rows, marks })
     }
 
@@ -193,14 +237,30 @@ impl RowMarks {
         }
     }
 
-    /// Whether a row has all literals of a cube.
-    pub(crate) fn has_holder(&self, alloc: Global, cube: &[Literal]) -> Result<bool, AllocError>
-        ensures { IfOk result (λ held. held ≡ list_any (has_all cube.now) self.now) }
+    // For each row whether it has all literals of a cube.
+    fn holders(&self, alloc: Global, cube: &[Literal]) -> Result<Vec<bool>, AllocError>
+        ensures { IfOk result (λ held. held.items ≡ map (has_all cube.now) self.now) }
     {
         let mut held = set_marks(alloc, self.rows.len())?;
         for literal in cube {
             held = self.set_with(alloc, held.as_slice(), literal)?;
         }
+        Ok(held)
+    }
+
+    /// Whether a row has all literals of a cube.
+    pub(crate) fn has_holder(&self, alloc: Global, cube: &[Literal]) -> Result<bool, AllocError>
+        ensures { IfOk result (λ held. held ≡ list_any (has_all cube.now) self.now) }
+    {
+        let held = self.holders(alloc, cube)?;
         Ok(is_some_set(held.as_slice()))
+    }
+
+    /// The number of rows that have all literals of a cube.
+    pub(crate) fn count_holders(&self, alloc: Global, cube: &[Literal]) -> Result<usize, AllocError>
+        ensures { IfOk result (λ count. count ≡ many (has_all cube.now) self.now) }
+    {
+        let held = self.holders(alloc, cube)?;
+        Ok(count_set(held.as_slice()))
     }
 }

@@ -15,6 +15,7 @@ use crate::fault::SavingsFault;
 use crate::kept::CandidateQueue;
 use crate::listing::list_places;
 use crate::renewing::renew_touched;
+use crate::rows::RowIndex;
 use circuit_model::Name;
 use cube_cover::Row;
 use indexmap::IndexSet;
@@ -46,17 +47,13 @@ pub(crate) fn refresh<R: Row>(
     let touched = mem::replace(&mut kept.touched, IndexSet::new(alloc));
     let fresh = mem::replace(&mut kept.fresh, Vec::new(alloc));
     let changed = mem::replace(&mut kept.changed, Vec::new(alloc));
-    renew_touched(
-        alloc,
-        work,
-        name,
-        &mut kept.ranked,
-        changed,
-        touched.as_slice(),
-    )?;
+    let index = RowIndex::of_readers(alloc, work, fresh.as_slice())?;
+    let names = touched.as_slice();
+    renew_touched(alloc, work, &index, name, &mut kept.ranked, changed, names)?;
     list_places(
         alloc,
         work,
+        &index,
         rule,
         name,
         &mut kept.ranked,

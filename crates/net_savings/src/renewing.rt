@@ -13,6 +13,7 @@ ghost use Rattle.alg_div.specs.Cubes.{Has};
 ghost use Rattle.cover_names.specs.Literals.{NamedCover};
 ghost use Rattle.net_core.specs.Fresh.{IsNewName};
 ghost use Rattle.net_work.specs.Placed.{circuit_of};
+ghost use Rattle.net_savings.specs.Indexed.{IsIndex};
 ghost use Rattle.net_savings.specs.Meeting.{is_met};
 ghost use Rattle.net_savings.specs.Ranking.{saving_in, covers_under};
 ghost use Rattle.net_candidates.specs.Candidates.{literals_in};
@@ -21,6 +22,7 @@ ghost use Rattle.net_savings.specs.Savings.{IsRight, IsNoted, AreFound, IsGrown}
 use crate::covers::RankedCovers;
 use crate::marks::RowMarks;
 use crate::ordered::OrderedCover;
+use crate::rows::RowIndex;
 use crate::saving::{rarest_name, saving_of};
 use circuit_model::Name;
 use cover_names::{Cube, NamedCover};
@@ -33,19 +35,21 @@ use std::alloc::{AllocError, Global};
 fn renew<R: Row>(
     alloc: Global,
     work: &WorkingNetwork<R>,
+    index: &RowIndex,
     name: &Name,
     ranked: &mut RankedCovers,
     cover: &OrderedCover,
 ) -> Result<(), AllocError>
     requires sound { IsSound (circuit_of work.now) }
     requires free { IsNewName (circuit_of work.now) name.now }
+    requires index { IsIndex work.now index.now }
     requires some { 1 ≤ literals_in cover.now }
     ensures grown { OnOk result (IsGrown work.now ranked.old ranked.new) }
     ensures right { OnOk result (IsRight work.now (saving_in ranked.new) cover.now) }
     ensures noted { OnOk result (IsNoted (saving_in ranked.new) cover.now) }
 {
     let cubes = cover.get().as_slice();
-    let saving = saving_of(alloc, work, name, cubes)?;
+    let saving = saving_of(alloc, work, index, name, cubes)?;
     match rarest_name(work, cubes) {
         None => unreachable!(),
         Some(found) => {
@@ -59,6 +63,7 @@ fn renew<R: Row>(
 fn renew_under<R: Row>(
     alloc: Global,
     work: &WorkingNetwork<R>,
+    index: &RowIndex,
     name: &Name,
     ranked: &mut RankedCovers,
     rows: &RowMarks,
@@ -66,6 +71,7 @@ fn renew_under<R: Row>(
 ) -> Result<(), AllocError>
     requires sound { IsSound (circuit_of work.now) }
     requires free { IsNewName (circuit_of work.now) name.now }
+    requires index { IsIndex work.now index.now }
     requires found { AreFound (saving_in ranked.old) (covers_under ranked.old) }
     ensures grown { OnOk result (IsGrown work.now ranked.old ranked.new) }
     ensures right { OnOk result ((cover : NamedCover) → is_met rows.now cover ≡ true → Has cover
@@ -73,7 +79,7 @@ fn renew_under<R: Row>(
 {
     let covers = ranked.met_under(alloc, touched, rows)?;
     for cover in &covers {
-        renew(alloc, work, name, ranked, cover)?;
+        renew(alloc, work, index, name, ranked, cover)?;
     }
     Ok(())
 }
@@ -82,6 +88,7 @@ fn renew_under<R: Row>(
 pub(crate) fn renew_touched<R: Row>(
     alloc: Global,
     work: &WorkingNetwork<R>,
+    index: &RowIndex,
     name: &Name,
     ranked: &mut RankedCovers,
     changed: Vec<Cube>,
@@ -89,6 +96,7 @@ pub(crate) fn renew_touched<R: Row>(
 ) -> Result<(), AllocError>
     requires sound { IsSound (circuit_of work.now) }
     requires free { IsNewName (circuit_of work.now) name.now }
+    requires index { IsIndex work.now index.now }
     requires found { AreFound (saving_in ranked.old) (covers_under ranked.old) }
     ensures grown { OnOk result (IsGrown work.now ranked.old ranked.new) }
     ensures right { OnOk result ((under : List ℕ) (cover : NamedCover) → has touched.now under ≡ true
@@ -97,7 +105,7 @@ pub(crate) fn renew_touched<R: Row>(
 {
     let rows = RowMarks::new(alloc, changed)?;
     for one in touched {
-        renew_under(alloc, work, name, ranked, &rows, one)?;
+        renew_under(alloc, work, index, name, ranked, &rows, one)?;
     }
     Ok(())
 }
@@ -106,12 +114,14 @@ pub(crate) fn renew_touched<R: Row>(
 fn note<R: Row>(
     alloc: Global,
     work: &WorkingNetwork<R>,
+    index: &RowIndex,
     name: &Name,
     ranked: &mut RankedCovers,
     cover: &NamedCover,
 ) -> Result<(), AllocError>
     requires sound { IsSound (circuit_of work.now) }
     requires free { IsNewName (circuit_of work.now) name.now }
+    requires index { IsIndex work.now index.now }
     requires some { 1 ≤ literals_in cover.now }
     ensures grown { OnOk result (IsGrown work.now ranked.old ranked.new) }
     ensures noted { OnOk result (IsNoted (saving_in ranked.new) cover.now) }
@@ -119,7 +129,7 @@ fn note<R: Row>(
     let ordered = OrderedCover::new(cover.copy(alloc)?);
     match ranked.saving(&ordered) {
         Some(_saving) => Ok(()),
-        None => renew(alloc, work, name, ranked, &ordered),
+        None => renew(alloc, work, index, name, ranked, &ordered),
     }
 }
 
@@ -127,19 +137,21 @@ fn note<R: Row>(
 pub(crate) fn note_all<R: Row>(
     alloc: Global,
     work: &WorkingNetwork<R>,
+    index: &RowIndex,
     name: &Name,
     ranked: &mut RankedCovers,
     covers: &[NamedCover],
 ) -> Result<(), AllocError>
     requires sound { IsSound (circuit_of work.now) }
     requires free { IsNewName (circuit_of work.now) name.now }
+    requires index { IsIndex work.now index.now }
     requires some { (cover : NamedCover) → Has cover covers.now → 1 ≤ literals_in cover }
     ensures grown { OnOk result (IsGrown work.now ranked.old ranked.new) }
     ensures noted { OnOk result ((cover : NamedCover) → Has cover covers.now → IsNoted
         (saving_in ranked.new) cover) }
 {
     for cover in covers {
-        note(alloc, work, name, ranked, cover)?;
+        note(alloc, work, index, name, ranked, cover)?;
     }
     Ok(())
 }

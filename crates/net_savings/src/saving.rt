@@ -8,7 +8,8 @@
 //! (`by_rows`). Callers rely on `IsSaved`: the exact number, and none exactly if nothing is saved or
 //! a table would have more than `MAX_INPUTS` inputs.
 
-ghost use Rattle.std.specs.Prelude.{◌≡◌, ℕ, ◌+◌, ◌-◌, ◌≤◌, ◌<◌, ltb, ◌&&◌, ◌⊎◌, true, false, Option, Some, List, length, IfOk, IfSome, MatchOption};
+ghost use Rattle.std.specs.Prelude.{◌≡◌, ℕ, ◌+◌, ◌-◌, ◌≤◌, ◌<◌, ltb, ◌&&◌, ◌⊎◌, true, false, Option, Some, List, [], ◌∷◌, length, IfOk, IfSome, MatchOption};
+ghost use Rattle.std.specs.List.{list_all};
 ghost use Rattle.std.specs.List.Sorted.{IsStrictlyIncreasing};
 ghost use Rattle.circuit_model.specs.Names.{has, all_different};
 ghost use Rattle.circuit_model.specs.Soundness.{IsSound};
@@ -21,9 +22,13 @@ ghost use Rattle.net_core.specs.Fresh.{IsNewName};
 ghost use Rattle.net_core.specs.Tables.{named, IsOverInputs};
 ghost use Rattle.net_work.specs.Placed.{standing, circuit_of, table_at};
 ghost use Rattle.net_candidates.specs.Candidates.{literals_in};
+ghost use Rattle.net_savings.specs.Indexed.{IsLostIn, IsIndex};
+ghost use Rattle.net_savings.specs.Meeting.{is_apart};
 ghost use Rattle.net_savings.specs.Saving.{IsLoss, AreLosses, IsSaved};
 
-use crate::by_rows::{lacks_cube, loss_by_rows, sum_of};
+use crate::by_rows::{lacks_cube, loss_by_rows, product_of, sum_of};
+use crate::meeting::is_apart;
+use crate::rows::RowIndex;
 use alg_tables::{cover_table, divided_table};
 use circuit_model::{Name, has_name};
 use cover_names::{Cube, Literal};
@@ -223,9 +228,40 @@ fn excess(lost: Option<u128>, own: u128) -> Option<u128>
     }
 }
 
-/// The number of literals that a cover saves if it is extracted under a new name; none if it saves
-/// none, or a table would have too many inputs.
-pub(crate) fn saving_of<R: Row>(
+// The number of literals that all tables lose by one cube, by rows that tell it and by the tables
+// that are not told by their rows; none if one of the tables would have too many inputs.
+fn lost_by_rows<R: Row>(
+    alloc: Global,
+    work: &WorkingNetwork<R>,
+    index: &RowIndex,
+    name: &Name,
+    cover: &[Cube],
+    cube: &[Literal],
+) -> Result<Option<u128>, AllocError>
+    requires sound { IsSound (circuit_of work.now) }
+    requires free { IsNewName (circuit_of work.now) name.now }
+    requires index { IsIndex work.now index.now }
+    requires one { cover.now ≡ cube.now ∷ [] }
+    requires known { list_all (λ (literal : Literal). has index.now.names.keys literal.name)
+        cube.now ≡ true }
+    requires apart { is_apart cube.now ≡ true }
+    requires some { 1 ≤ length cube.now }
+    ensures { IfOk result (IsLostIn (standing work.now.slots) name.now cover.now) }
+{
+    let count = index.rows.count_holders(alloc, cube)?;
+    match losses_at(alloc, work, name, cover, index.others.as_slice())? {
+        None => Ok(None),
+        Some(rest) => {
+            let product = product_of(count as u128, (cube.len() - 1) as u128)?;
+            let lost = sum_of(product, rest)?;
+            Ok(Some(lost))
+        }
+    }
+}
+
+// The number of literals that all tables lose by a cover, table by table; none if one of them would
+// have too many inputs.
+fn lost_by_tables<R: Row>(
     alloc: Global,
     work: &WorkingNetwork<R>,
     name: &Name,
@@ -234,13 +270,56 @@ pub(crate) fn saving_of<R: Row>(
     requires sound { IsSound (circuit_of work.now) }
     requires free { IsNewName (circuit_of work.now) name.now }
     requires some { 1 ≤ literals_in cover.now }
+    ensures { IfOk result (IsLostIn (standing work.now.slots) name.now cover.now) }
+{
+    let places = places_for(alloc, work, cover)?;
+    let lost = losses_at(alloc, work, name, cover, places.as_slice())?;
+    Ok(lost)
+}
+
+// The number of literals that all tables lose by a cover; none if one of them would have too many
+// inputs.
+fn lost_in_all<R: Row>(
+    alloc: Global,
+    work: &WorkingNetwork<R>,
+    index: &RowIndex,
+    name: &Name,
+    cover: &[Cube],
+) -> Result<Option<u128>, AllocError>
+    requires sound { IsSound (circuit_of work.now) }
+    requires free { IsNewName (circuit_of work.now) name.now }
+    requires index { IsIndex work.now index.now }
+    requires some { 1 ≤ literals_in cover.now }
+    ensures { IfOk result (IsLostIn (standing work.now.slots) name.now cover.now) }
+{
+    if let [one] = cover {
+        let cube = one.as_slice();
+        if !cube.is_empty() && index.knows(cube) && is_apart(cube) {
+            return lost_by_rows(alloc, work, index, name, cover, cube);
+        }
+    }
+    lost_by_tables(alloc, work, name, cover)
+}
+
+/// The number of literals that a cover saves if it is extracted under a new name; none if it saves
+/// none, or a table would have too many inputs.
+pub(crate) fn saving_of<R: Row>(
+    alloc: Global,
+    work: &WorkingNetwork<R>,
+    index: &RowIndex,
+    name: &Name,
+    cover: &[Cube],
+) -> Result<Option<u128>, AllocError>
+    requires sound { IsSound (circuit_of work.now) }
+    requires free { IsNewName (circuit_of work.now) name.now }
+    requires index { IsIndex work.now index.now }
+    requires some { 1 ≤ literals_in cover.now }
     ensures { IfOk result (λ saved. IsSaved (standing work.now.slots) name.now cover.now saved) }
 {
     let table: CoverTable<R> = cover_table(alloc, cover)?;
     if MAX_INPUTS < table.inputs.len() {
         return Ok(None);
     }
-    let places = places_for(alloc, work, cover)?;
-    let lost = losses_at(alloc, work, name, cover, places.as_slice())?;
+    let lost = lost_in_all(alloc, work, index, name, cover)?;
     Ok(excess(lost, literal_count(&table)))
 }

@@ -83,8 +83,8 @@ fn most_read<'a, R: Row>(work: &WorkingNetwork<R>, first: &'a Name, names: &'a [
     most
 }
 
-// Appends the indices of the fanouts of a name.
-fn push_readers<R: Row>(
+/// Appends the indices of the fanouts of a name.
+pub(crate) fn push_readers<R: Row>(
     alloc: Global,
     work: &WorkingNetwork<R>,
     name: &Name,
