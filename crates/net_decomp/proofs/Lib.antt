@@ -3,6 +3,7 @@ pub mod Partly
 pub mod Slots
 pub mod Putting
 pub mod Falling
+pub mod Middle
 pub mod Turning
 pub mod Dues
 pub mod Along

@@ -37,7 +37,7 @@ dashes_more (suc width) = ap (λ (row : List (Option Bool)). None ∷ row) (dash
 dashes_length : (width : ℕ) → length (dashes width) ≡ width
 dashes_length width = length-replicate width None
 
-dashes_characters : (width : ℕ) → characters_of (dashes width) ≡ replicate width Free
+pub dashes_characters : (width : ℕ) → characters_of (dashes width) ≡ replicate width Free
 dashes_characters zero = refl
 dashes_characters (suc width) = ap (λ (row : List Tri). Free ∷ row) (dashes_characters width)
 
@@ -92,7 +92,7 @@ drawn_ones width (literal ∷ literals) below = (
   drawn_ones width literals below.1,
 )
 
-drawn_parts : (width most : ℕ) (literals : List Literal) → drawn width (take most literals) ++ drawn width (drop most literals) ≡ drawn width literals
+pub drawn_parts : (width most : ℕ) (literals : List Literal) → drawn width (take most literals) ++ drawn width (drop most literals) ≡ drawn width literals
 drawn_parts width most literals =
     sym (map-append characters_of (sum_rows width (take most literals)) (sum_rows width (drop most literals)))
     ∙ ap (λ (rows : List (List (Option Bool))). map characters_of rows) (sym (map-append (single_row width) (take most literals) (drop most literals)))

@@ -1,6 +1,6 @@
 -- Tables whose rows are single literals, and their first rows that become a table. No public clause
 -- needs these definitions. Source: the SIS report (UCB/ERL M92/41), `tech_decomp`.
-use Rattle.std.specs.Prelude.{◌≡◌, ℕ, ◌+◌, ◌^◌, ◌<◌, ◌≤◌, Bool, true, Option, Some, None, List, [], ◌∷◌, ◌++◌, map, take, drop, length, replicate, slice_set}
+use Rattle.std.specs.Prelude.{◌≡◌, ℕ, ◌+◌, ◌-◌, ◌^◌, ◌<◌, ◌≤◌, Bool, true, Option, Some, None, List, [], ◌∷◌, ◌++◌, map, take, drop, length, replicate, slice_set}
 use Rattle.std.specs.List.{AllByRecursion}
 use Rattle.circuit_model.specs.Names.{has, all_different}
 use Rattle.circuit_model.specs.Soundness.{given}
@@ -26,6 +26,13 @@ single_row width literal = slice_set (replicate width None) literal.place (Some 
 abbrev pub sum_rows : ℕ → List Literal → List (List (Option Bool))
 sum_rows width literals = map (single_row width) literals
 
+-- a literal in the columns after the first ones, and the rows of such literals
+abbrev pub shifted : ℕ → Literal → Literal
+shifted from literal = record { place = literal.place - from; bit = literal.bit }
+
+abbrev pub shifted_rows : ℕ → ℕ → List Literal → List (List (Option Bool))
+shifted_rows width from literals = map (λ (literal : Literal). single_row width (shifted from literal)) literals
+
 -- the table of single literals over names, in its normal form
 abbrev pub sum_table : List (List ℕ) → List ℕ → Bool → List Literal → Table
 sum_table names name phase literals = tidied (record { inputs = names; output = name; rows = map characters_of (sum_rows (length names) literals); phase = phase })
@@ -33,6 +40,16 @@ sum_table names name phase literals = tidied (record { inputs = names; output = 
 -- the index of a literal is below a number of names
 abbrev pub IsBelow : ℕ → Literal → Type 0
 IsBelow width literal = literal.place < width
+
+-- the index of a literal is from one number up to another
+abbrev pub IsBetween : ℕ → ℕ → Literal → Type 0
+IsBetween from to literal = (from ≤ literal.place) × (literal.place < to)
+
+-- no name and no literal is listed twice, and each literal has a name
+pub record IsListed (names : List (List ℕ)) (literals : List Literal) : Type 0 where
+  pub different : all_different names ≡ true
+  pub below : AllByRecursion (IsBelow (length names)) literals
+  pub differ : rows_differ (map characters_of (sum_rows (length names) literals)) ≡ true
 
 -- a rule lets a gate have at most so many rows, two or more
 abbrev pub IsSumBound : Rule → ℕ → Type 0

@@ -19,11 +19,11 @@ ghost use Rattle.net_work.specs.Placed.{circuit_of, table_at};
 ghost use Rattle.sis_base.specs.declared.limits.TheConstants.{MAX_NODES};
 ghost use Rattle.net_decomp.specs.Decomposed.{IsFull};
 ghost use Rattle.net_decomp.specs.Cursor.{AreDone, IsAlong, weight};
-ghost use Rattle.net_decomp.specs.Sums.{single_row, sum_rows, sum_table, IsBelow, IsSumBound, IsSum, IsSumAt, IsFirstParted};
+ghost use Rattle.net_decomp.specs.Sums.{single_row, sum_rows, shifted, shifted_rows, sum_table, IsBelow, IsBetween, IsListed, IsSumBound, IsSum, IsSumAt, IsFirstParted};
 
 use crate::Rule;
 use crate::stepping::{push_name, tidy_table};
-use circuit_model::{Name, Names};
+use circuit_model::{Name, Names, names_copied};
 use cube_cover::Row;
 use net_core::{AddFault, CoverTable};
 use net_work::WorkingNetwork;
@@ -41,6 +41,13 @@ const ROW_BOUND: usize = (1 << 33) - 1;
 pub(crate) struct Literal {
     pub(crate) place: usize,
     pub(crate) bit: bool,
+}
+
+/// Columns, from one index up to another.
+#[derive(Clone, Copy)]
+pub(crate) struct Span {
+    pub(crate) from: usize,
+    pub(crate) to: usize,
 }
 
 /// A table of rows of one literal each, and how many of them a gate may have.
@@ -64,36 +71,74 @@ fn single_row<R: Row>(alloc: Global, width: usize, literal: Literal) -> Result<R
     Ok(row)
 }
 
-// Rows of one literal each.
-fn single_rows<R: Row>(
+// The literal in the columns after the first ones.
+fn shifted(literal: Literal, from: usize) -> Literal
+    ensures { result ≡ shifted from literal }
+{
+    Literal {
+        place: literal.place.saturating_sub(from),
+        bit: literal.bit,
+    }
+}
+
+// Rows of one literal each, without the first columns.
+fn shifted_rows<R: Row>(
     alloc: Global,
     width: usize,
     literals: &[Literal],
+    from: usize,
 ) -> Result<Vec<R>, AllocError>
-    ensures { IfOk result (λ made. map R.literals made.items ≡ sum_rows width literals.now) }
+    ensures { IfOk result (λ made. map R.literals made.items
+        ≡ shifted_rows width from literals.now) }
 {
     let mut made = Vec::with_capacity(alloc, literals.len())?;
     for literal in literals {
-        made.push(single_row(alloc, width, *literal)?)?;
+        made.push(single_row(alloc, width, shifted(*literal, from))?)?;
     }
     Ok(made)
 }
 
-// The table whose rows have one literal each, in normal form.
+// The columns that hold literals below a width.
+fn span_of(literals: &[Literal], width: usize) -> Span
+    requires { AllByRecursion (IsBelow width) literals.now }
+    ensures within { AllByRecursion (IsBetween result.from result.to) literals.now }
+    ensures order { result.from ≤ result.to }
+    ensures fits { result.to ≤ width }
+{
+    let mut from = width;
+    let mut to = 0;
+    for literal in literals {
+        from = from.min(literal.place);
+        if to <= literal.place {
+            to = literal.place + 1;
+        }
+    }
+    Span {
+        from: from.min(to),
+        to,
+    }
+}
+
+// The table whose rows have one literal each, in normal form. Only the names between the first and
+// the last one that the literals read are looked at.
 fn sum_table<R: Row>(
     alloc: Global,
     names: &Names,
     literals: &[Literal],
     phase: bool,
 ) -> Result<CoverTable<R>, AllocError>
+    requires { IsListed names.now literals.now }
     ensures tidy { IfOk result (λ made. (name : List ℕ) → named name made
         ≡ sum_table names.now name phase literals.now) }
     ensures over { IfOk result IsOverInputs }
     ensures once { IfOk result (λ made. all_different made.inputs ≡ true) }
     ensures bounded { IfOk result (λ made. (name : List ℕ) → IsBounded (named name made)) }
 {
-    let rows = single_rows(alloc, names.len(), literals)?;
-    tidy_table(alloc, names.copy(alloc)?, rows, phase)
+    let Span { from, to } = span_of(literals, names.len());
+    let (front, _behind) = names.as_slice().split_at(to);
+    let (_before, few) = front.split_at(from);
+    let rows = shifted_rows(alloc, few.len(), literals, from)?;
+    tidy_table(alloc, names_copied(alloc, few)?, rows, phase)
 }
 
 // The literal of a row of the given width; none if it does not have exactly one.
@@ -215,7 +260,8 @@ fn part_first<R: Row>(
     first: usize,
     most: usize,
 ) -> Result<(), AddFault>
-    requires { first + most ≤ length literals.old.items }
+    requires within { first + most ≤ length literals.old.items }
+    requires listed { IsListed names.old (drop first literals.old.items) }
     ensures parted { OnOk result (IsFirstParted first most names.old literals.old.items work.old
         names.new literals.new.items work.new) }
     ensures limit { IfErr result (λ fault. fault ≡ NodeLimit → MAX_NODES ≤ node_count

@@ -1,8 +1,14 @@
 use Rattle.std.proofs.Common.{List, ap, drop, ◌∙◌, arith}
 use Rattle.net_core.specs.Tables.{named}
 use Rattle.net_decomp.specs.declared.sums.Literal.{Literal}
+use Rattle.net_decomp.proofs.Middle.{first_listed}
 use Rattle.net_decomp.proofs.Summing.{first_parted}
 use Rattle.net_decomp.proofs.sums.part_first.Goals as goal
+
+pub sum_table-requires : goal.sum_table-requires
+sum_table-requires g c =
+    first_listed c.args.names.now c.args.most (drop c.args.first c.args.literals.now.items) c.split_at.result.1.now c.split_at-2.result.0.now c.requires.listed
+    (c.split_at.ensures.back ∙ ap (λ (list : List Literal). drop c.args.first list) c.as_slice.ensures.value) c.split_at-2.ensures.front
 
 pub returns-clause-parted : goal.returns-clause-parted
 returns-clause-parted g c =

@@ -1,9 +1,10 @@
-use Rattle.std.proofs.Common.{◌+◌, ◌<◌, Option, List, length, drop, sym, ap, ◌∙◌, arith}
+use Rattle.std.proofs.Common.{◌≡◌, ◌+◌, ◌<◌, Option, List, length, drop, sym, ap, subst, ◌∙◌, arith}
 use Rattle.std.specs.Option.{is_some}
 use Rattle.std.proofs.lemmas.List.{length-append}
 use Rattle.std.proofs.lemmas.Result.{err_from_is_err_and}
 use Rattle.circuit_model.specs.declared.circuit.Table.{Table}
 use Rattle.net_core.specs.Tables.{named}
+use Rattle.net_decomp.specs.Sums.{IsListed}
 use Rattle.net_decomp.specs.declared.sums.Literal.{Literal}
 use Rattle.net_decomp.proofs.Summing.{sum_begin, sum_more, sum_over, sum_set}
 use Rattle.net_decomp.proofs.sums.part_literals.Goals as goal
@@ -37,6 +38,16 @@ returns-in_err-part_first-clause-full g c =
 
 pub set-requires-clause-there : goal.set-requires-clause-there
 set-requires-clause-there g c = ap (λ (o : Option Table). is_some o) c.loop-first.invariant.on.there
+
+pub part_first-requires-clause-listed : goal.part_first-requires-clause-listed
+part_first-requires-clause-listed g c =
+    let on = c.loop-first.invariant.on in record { different = on.different; below = on.below; differ = on.differ }
+
+pub sum_table-requires : goal.sum_table-requires
+sum_table-requires g c =
+    let on = c.loop-first.invariant.on in
+    let left : c.split_at.result.1.now ≡ drop c.loop-first.first c.loop-first.literals.items = c.split_at.ensures.back ∙ ap (λ (list : List Literal). drop c.loop-first.first list) c.as_slice.ensures.value in
+    subst (IsListed c.loop-first.names) (sym left) (record { different = on.different; below = on.below; differ = on.differ })
 
 pub returns : goal.returns
 returns g c =
