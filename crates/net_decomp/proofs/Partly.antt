@@ -1,8 +1,8 @@
 -- Rows and literals in a loop: those that are made, and those still to be made of the rest.
-use Rattle.std.proofs.Common.{◌≡◌, ℕ, ◌+◌, ◌-◌, ◌<◌, ◌≤◌, zero, suc, Bool, true, false, if◌then◌else◌, eqb, Option, Some, None, List, [], ◌∷◌, ◌++◌, map, filter, drop, length, get_or, refl, sym, ap, ◌∙◌, arith}
+use Rattle.std.proofs.Common.{◌≡◌, ℕ, ◌+◌, ◌-◌, ◌<◌, ◌≤◌, zero, suc, Bool, true, false, if◌then◌else◌, eqb, Option, Some, None, List, [], ◌∷◌, ◌++◌, map, filter, drop, length, replicate, set, get_or, refl, sym, ap, ◌∙◌, arith}
 use Rattle.std.proofs.lemmas.Bool.{eqb-true}
 use Rattle.std.proofs.Math.Seq.{drop-cons}
-use Rattle.std.proofs.lemmas.List.{map_push, append_assoc, append-nil, drop_all}
+use Rattle.std.proofs.lemmas.List.{map_push, append_assoc, append-nil, drop_all, length-replicate, replicate-append-replicate, set-append_right}
 use Rattle.cube_cover.specs.Literals.{literal_number}
 use Rattle.net_decomp.specs.Rules.{padded, signal_row, is_long, with_signals, first_literals, later_literals}
 
@@ -76,6 +76,13 @@ pub later_ended : (all made total : List (Option Bool)) (i left : ℕ) → lengt
 unfolding later_literals
 later_ended all made total i left past so_far =
     sym (append-nil made) ∙ ap (λ (l : List (Option Bool)). made ++ later_literals left l) (sym (drop_all i all past)) ∙ so_far
+
+-- the row of a signal, as a row of dashes of which one is set
+pub signal_set : (width added number : ℕ) → set (replicate (width + added) None) (width + number) (Some true) ≡ signal_row width added number
+signal_set width added number =
+    ap (λ (row : List (Option Bool)). set row (width + number) (Some true)) (sym (replicate-append-replicate width added None))
+    ∙ set-append_right (replicate width None) (replicate added None) width (width + number) (Some true) (length-replicate width None) (omega arith)
+    ∙ (let same : width + number - width ≡ number = omega arith in ap (λ (place : ℕ). replicate width None ++ set (replicate added None) place (Some true)) same)
 
 -- rows of which the long ones are replaced by signals, one row further
 signals_long : (width added number : ℕ) (row : List (Option Bool)) (rows : List (List (Option Bool))) → is_long row ≡ true

@@ -34,6 +34,7 @@ pub(crate) fn padded_row<R: Row>(alloc: Global, row: &R, added: usize) -> Result
 }
 
 /// A row of dashes, over inputs and then new inputs, of which one has the positive literal.
+#[tactic(auto, using(crate::proofs::Partly::signal_set))]
 pub(crate) fn signal_row_of<R: Row>(
     alloc: Global,
     width: usize,
@@ -43,11 +44,14 @@ pub(crate) fn signal_row_of<R: Row>(
     requires { number < added }
     ensures { IfOk result (λ row. R.literals row ≡ signal_row width added number) }
 {
-    let mut signals = dashes(alloc, added)?;
-    signals[number] = Some(true);
-    let mut literals = dashes(alloc, width)?;
-    literals.extend_from_slice(signals.as_slice())?;
-    row_of(alloc, literals.as_slice())
+    match width.checked_add(added) {
+        None => Err(AllocError),
+        Some(columns) => {
+            let mut row = R::dashes(alloc, columns)?;
+            row.set(width + number, Some(true));
+            Ok(row)
+        }
+    }
 }
 
 // How many literals are left after one column.

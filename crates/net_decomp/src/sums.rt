@@ -44,7 +44,6 @@ pub(crate) struct Literal {
 }
 
 /// Columns, from one index up to another.
-#[derive(Clone, Copy)]
 pub(crate) struct Span {
     pub(crate) from: usize,
     pub(crate) to: usize,

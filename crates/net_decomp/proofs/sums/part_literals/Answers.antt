@@ -46,7 +46,8 @@ part_first-requires-clause-listed g c =
 pub sum_table-requires : goal.sum_table-requires
 sum_table-requires g c =
     let on = c.loop-first.invariant.on in
-    let left : c.split_at.result.1.now ≡ drop c.loop-first.first c.loop-first.literals.items = c.split_at.ensures.back ∙ ap (λ (list : List Literal). drop c.loop-first.first list) c.as_slice.ensures.value in
+    let left : c.split_at.result.1.now ≡ drop c.loop-first.first c.loop-first.literals.items =
+    ◌∙◌ {b = drop c.loop-first.first c.as_slice.result.now} c.split_at.ensures.back (ap (λ (list : List Literal). drop c.loop-first.first list) c.as_slice.ensures.value) in
     subst (IsListed c.loop-first.names) (sym left) (record { different = on.different; below = on.below; differ = on.differ })
 
 pub returns : goal.returns
