@@ -2,7 +2,7 @@
 -- decomposed until it is done. No public clause needs these definitions.
 -- Source: De Micheli, "Synthesis and Optimization of Digital Circuits", chapter 8 (a logic network
 -- as a set of nodes, changed one after the other).
-use Rattle.std.specs.Prelude.{◌≡◌, ℕ, ◌+◌, ◌-◌, ◌*◌, ◌<◌, ◌≤◌, ltb, cond, Bool, true, Option, Some, None, List, ◌++◌, map, length}
+use Rattle.std.specs.Prelude.{◌≡◌, ℕ, ◌+◌, ◌-◌, ◌*◌, ◌<◌, ◌≤◌, ltb, cond, Bool, true, Option, Some, None, Result, Ok, Err, List, ◌++◌, map, length}
 use Rattle.std.specs.List.{AllByRecursion}
 use Rattle.sis_base.specs.Rows.{HasWidth}
 use Rattle.circuit_model.specs.Soundness.{IsSound}
@@ -10,9 +10,11 @@ use Rattle.circuit_model.specs.declared.circuit.Table.{Table}
 use Rattle.circuit_tables.specs.Tidy.{is_tidy}
 use Rattle.net_decomp.specs.Partings.{Parting, rows_of, parted_table, ArePartsAdded, IsParted, IsOverfull}
 use Rattle.net_decomp.specs.Rules.{IsDone, IsDecomposable}
-use Rattle.net_decomp.specs.Decomposed.{IsReached}
+use Rattle.net_decomp.specs.Decomposed.{IsReached, IsFull}
 use Rattle.net_decomp.specs.declared.rule.Rule.{Rule}
 use Rattle.net_core.specs.Fresh.{node_count}
+use Rattle.net_core.specs.declared.adding.AddFault.{AddFault}
+use Rattle.net_core.specs.declared.adding.AddFault.TheVariants.{NodeLimit}
 use Rattle.net_core.specs.Reads.{IsBounded, HasBounds}
 use Rattle.net_work.specs.Placed.{Placed, standing, circuit_of, table_at, with_slot}
 use Rattle.net_decomp.specs.Told.{told}
@@ -93,3 +95,19 @@ pub record IsAlong (rule : Rule) (place : ℕ) (before now : Placed) : Type 0 wh
   pub done : AreDone rule place now.slots
   pub sound : IsSound (circuit_of now)
   pub bounds : HasBounds (circuit_of before) → HasBounds (circuit_of now)
+
+-- so many nodes are in a network in which the tables below an index are done, and the table at the
+-- index is in normal form
+pub record IsNext (rule : Rule) (count : ℕ) (place : ℕ) (now : Placed) : Type 0 where
+  pub sound : IsSound (circuit_of now)
+  pub nodes : count ≡ node_count (circuit_of now)
+  pub done : AreDone rule place now.slots
+  pub tidy : (table : Table) → table_at now.slots place ≡ Some table → is_tidy table ≡ true
+
+-- the table at an index was decomposed, and so many nodes are there now; or there is no room for a
+-- part
+abbrev pub Parts : Result ℕ AddFault → Rule → ℕ → Placed → Placed → Type 0
+Parts (Ok nodes) rule place before now =
+    (nodes ≡ node_count (circuit_of now)) × IsAlong rule place before now
+    × (weight place now ≤ weight place before)
+Parts (Err fault) rule place before now = fault ≡ NodeLimit → IsFull rule (circuit_of before)

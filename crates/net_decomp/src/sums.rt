@@ -8,17 +8,14 @@
 ghost use Rattle.std.specs.Prelude.{◌≡◌, ℕ, ◌+◌, ◌^◌, ◌<◌, ◌≤◌, true, Some, List, [], ◌∷◌, ◌++◌, length, map, drop, take, IfOk, IfErr, IfSome, OnOk};
 ghost use Rattle.std.specs.List.{AllByRecursion};
 ghost use Rattle.circuit_model.specs.Names.{all_different};
-ghost use Rattle.circuit_model.specs.Soundness.{IsSound};
 ghost use Rattle.circuit_model.specs.declared.circuit.Table.{Table};
-ghost use Rattle.circuit_tables.specs.Tidy.{is_tidy};
 ghost use Rattle.net_core.specs.Fresh.{node_count};
 ghost use Rattle.net_core.specs.Reads.{IsBounded};
 ghost use Rattle.net_core.specs.Tables.{named, IsOverInputs};
 ghost use Rattle.net_core.specs.declared.adding.AddFault.TheVariants.{NodeLimit};
 ghost use Rattle.net_work.specs.Placed.{circuit_of, table_at};
 ghost use Rattle.sis_base.specs.declared.limits.TheConstants.{MAX_NODES};
-ghost use Rattle.net_decomp.specs.Decomposed.{IsFull};
-ghost use Rattle.net_decomp.specs.Cursor.{AreDone, IsAlong, weight};
+ghost use Rattle.net_decomp.specs.Cursor.{IsNext, Parts};
 ghost use Rattle.net_decomp.specs.Sums.{single_row, sum_rows, shifted, shifted_rows, sum_table, IsBelow, IsBetween, IsListed, IsSumBound, IsSum, IsSumAt, IsFirstParted};
 
 use crate::Rule;
@@ -285,16 +282,9 @@ fn part_literals<R: Row>(
     sum: Sum,
     rule: Rule,
 ) -> Result<u128, AddFault>
-    requires sound { IsSound (circuit_of work.old) }
-    requires nodes { nodes ≡ node_count (circuit_of work.old) }
-    requires done { AreDone rule place work.old.slots }
-    requires tidy { (table : Table) → table_at work.old.slots place ≡ Some table
-        → is_tidy table ≡ true }
+    requires next { IsNext rule nodes place work.old }
     requires sum { IsSumAt rule work.old.slots place sum }
-    ensures nodes { IfOk result (λ now. now ≡ node_count (circuit_of work.new)) }
-    ensures along { OnOk result (IsAlong rule place work.old work.new) }
-    ensures light { OnOk result (weight place work.new ≤ weight place work.old) }
-    ensures full { IfErr result (λ fault. fault ≡ NodeLimit → IsFull rule (circuit_of work.old)) }
+    ensures { Parts result rule place work.old work.new }
 {
     let Sum {
         mut names,
@@ -325,15 +315,8 @@ pub(crate) fn part_sum<R: Row>(
     place: usize,
     rule: Rule,
 ) -> Result<u128, AddFault>
-    requires sound { IsSound (circuit_of work.old) }
-    requires nodes { nodes ≡ node_count (circuit_of work.old) }
-    requires done { AreDone rule place work.old.slots }
-    requires tidy { (table : Table) → table_at work.old.slots place ≡ Some table
-        → is_tidy table ≡ true }
-    ensures nodes { IfOk result (λ now. now ≡ node_count (circuit_of work.new)) }
-    ensures along { OnOk result (IsAlong rule place work.old work.new) }
-    ensures light { OnOk result (weight place work.new ≤ weight place work.old) }
-    ensures full { IfErr result (λ fault. fault ≡ NodeLimit → IsFull rule (circuit_of work.old)) }
+    requires { IsNext rule nodes place work.old }
+    ensures { Parts result rule place work.old work.new }
 {
     match sum_at(alloc, work, place, rule)? {
         None => Ok(nodes),

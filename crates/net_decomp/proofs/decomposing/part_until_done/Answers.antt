@@ -19,9 +19,9 @@ pub loop-now-preserved : goal.loop-now-preserved
 loop-now-preserved g c =
     let parted = rw c.in-Some.is at c.in_ok-now.ensures.parted in
     record {
-      nodes = c.in_ok-count.ensures.nodes;
+      nodes = c.in_ok-count.ensures.0;
       along = along_both c.args.rule c.args.place c.args.place c.args.work.now c.part_once.new.work c.part_sum.new.work
-          (along_more c.args.rule c.args.place c.args.work.now c.loop-now.work c.part_once.new.work c.loop-now.invariant.along parted) c.in_ok-count.ensures.along;
+          (along_more c.args.rule c.args.place c.args.work.now c.loop-now.work c.part_once.new.work c.loop-now.invariant.along parted) c.in_ok-count.ensures.1;
     }
 
 pub returns-in_err-now-clause-full : goal.returns-in_err-now-clause-full
@@ -35,4 +35,4 @@ returns-in_err-count-clause-full g c =
     let p = err_from_is_err_and c.from_residual-in_err-count.result c.from_residual-in_err-count.ensures.1 in
     rw (p.1, p.2)
     (λ e. along_full c.args.rule c.args.place c.args.work.now c.part_once.new.work
-    (along_more c.args.rule c.args.place c.args.work.now c.loop-now.work c.part_once.new.work c.loop-now.invariant.along parted) (c.in_err-count.ensures.full e))
+    (along_more c.args.rule c.args.place c.args.work.now c.loop-now.work c.part_once.new.work c.loop-now.invariant.along parted) (c.in_err-count.ensures e))

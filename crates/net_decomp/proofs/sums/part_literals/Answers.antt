@@ -11,9 +11,9 @@ use Rattle.net_decomp.proofs.sums.part_literals.Goals as goal
 
 pub loop-first-init : goal.loop-first-init
 loop-first-init g c = record {
-  nodes = c.requires.nodes;
+  nodes = c.requires.next.nodes;
   within = omega arith;
-  on = sum_begin c.args.rule c.args.place c.args.sum c.args.work.now c.requires.sound c.requires.done c.requires.tidy c.requires.sum;
+  on = sum_begin c.args.rule c.args.place c.args.sum c.args.work.now c.requires.next.sound c.requires.next.done c.requires.next.tidy c.requires.sum;
 }
 
 pub overflow_sub-len : goal.overflow_sub-len
@@ -28,8 +28,8 @@ loop-first-preserved g c =
     let longer = ap length parted.literals_are ∙ length-append c.loop-first.literals.items _ in
     record { nodes = omega (arith, all.1, c.loop-first.invariant.nodes); within = omega (arith, longer, more); on = all.0 }
 
-pub returns-in_err-part_first-clause-full : goal.returns-in_err-part_first-clause-full
-returns-in_err-part_first-clause-full g c =
+pub returns-in_err-part_first : goal.returns-in_err-part_first
+returns-in_err-part_first g c =
     let more : c.loop-first.first + c.args.sum.most < length c.loop-first.literals.items = omega (arith, c.loop-first-test.true, c.loop-first.invariant.within, c.len.ensures, c.loop-first.literals.ok.0) in
     let p = err_from_is_err_and c.from_residual.result c.from_residual.ensures.1 in
     rw (p.1, p.2)
@@ -55,4 +55,4 @@ returns g c =
     let left = c.split_at.ensures.back ∙ ap (λ (list : List Literal). drop c.loop-first.first list) c.as_slice.ensures.value in
     let ended = sum_set c.args.rule c.args.place c.args.sum.phase c.args.work.now c.loop-first.work c.set.new.self c.loop-first.names (drop c.loop-first.first c.loop-first.literals.items) c.split_at.result.1.now
     (λ name. named name c.in_ok-table.table) c.loop-first.invariant.on left c.in_ok-table.ensures.tidy c.in_ok-set.ensures in
-    record { nodes = c.loop-first.invariant.nodes ∙ sym ended.nodes; along = ended.along; light = ended.light; full = tt }
+    (c.loop-first.invariant.nodes ∙ sym ended.nodes, ended.along, ended.light)
