@@ -4,7 +4,7 @@
 //! Optimization System" (1987): the value of a divisor. Each row that contains a cube loses the
 //! cube's literals and gains one. So what one cube saves is found by marks of rows, and only those
 //! tables are looked at whose rows do not tell it. This is done for cubes of names that many tables
-//! read; which names they are no clause says. Callers rely on `IsIndex` of `specs/Indexed.antt`.
+//! or many rows read; which names they are no clause says. Callers rely on `IsIndex` of `specs/Indexed.antt`.
 
 ghost use Rattle.std.specs.Prelude.{◌≡◌, ◌++◌, ◌∷◌, [], ℕ, List, IfOk, OnOk};
 ghost use Rattle.std.specs.List.{list_all};
@@ -33,6 +33,9 @@ use std::alloc::{AllocError, Global};
 
 /// The tables that read a name of so few readers are looked at one by one.
 const FEW_READERS: usize = 8;
+
+/// A table of more rows is not looked at for each cube, even if it alone reads a name.
+const FEW_ROWS: usize = 16;
 
 /// So few names are not worth an index.
 const FEW_NAMES: usize = 3;
@@ -141,8 +144,8 @@ fn readers_of<R: Row>(
     Ok(places)
 }
 
-// Adds the inputs of the table at an index that many tables read to names, and returns how many
-// sets of them there are, the empty one included; no clause says so.
+// Adds the inputs of the table at an index to names, those that many tables read if its rows are
+// few, and returns how many sets of them there are, the empty one included; no clause says so.
 fn add_inputs<R: Row>(
     alloc: Global,
     work: &WorkingNetwork<R>,
@@ -151,8 +154,9 @@ fn add_inputs<R: Row>(
 ) -> Result<usize, AllocError> {
     let mut sets: usize = 1;
     if let Some(entry) = work.entry(place) {
+        let has_many_rows = FEW_ROWS < entry.table.cover.rows().len();
         for input in entry.table.inputs.as_slice() {
-            if FEW_READERS < work.reader_count(input) {
+            if has_many_rows || FEW_READERS < work.reader_count(input) {
                 names.insert(input.copy(alloc)?)?;
                 sets = sets.saturating_mul(2);
             }
@@ -176,8 +180,8 @@ fn are_spread<R: Row>(
     Ok(total.saturating_mul(FEW_READERS) < places.len().saturating_mul(names.len()))
 }
 
-// The inputs of the tables at some indices that many tables read; none if their rows are not worth
-// an index. No clause says which names they are.
+// Inputs of the tables at some indices that many tables or many rows read; none if an index of
+// them is not worth its cost. No clause says which names they are.
 fn common_inputs<R: Row>(
     alloc: Global,
     work: &WorkingNetwork<R>,
@@ -201,8 +205,7 @@ fn common_inputs<R: Row>(
 }
 
 impl RowIndex {
-    /// The rows of the tables that read an input of the tables at some indices, of those inputs
-    /// that many tables read.
+    /// The rows of the tables that read one of some inputs of the tables at some indices.
     pub(crate) fn of_readers<R: Row>(
         alloc: Global,
         work: &WorkingNetwork<R>,
