@@ -9,7 +9,7 @@
 //! The spans are exactly those of the definitions (`specs/Lines.antt`, `specs/Pieces.antt`), in
 //! order and inside the text, and each is a word; `specs/Entries.antt` has their bytes instead.
 //! Lines of words, written as the base crate says (its `specs/Written.antt`), are read back
-//! unchanged.
+//! unchanged. `ReadFault` says why a reader of a text fails.
 #![tactic(auto)]
 
 mod decimal;
@@ -17,6 +17,7 @@ mod joining;
 mod laws;
 mod parting;
 mod places;
+mod read_fault;
 mod scripts;
 mod word;
 
@@ -25,5 +26,6 @@ pub use joining::{ends_open, logical_lines};
 pub use laws::{entries_are_proper, written_lines_are_read};
 pub use parting::words;
 pub use places::{Line, Lines, Span, Spans, bytes_at, texts_at};
+pub use read_fault::ReadFault;
 pub use scripts::script_pieces;
 pub use word::Word;
