@@ -21,8 +21,8 @@ use Rattle.kiss_format.specs.Trips.{IsWithinLimits}
 use Rattle.kiss_format.specs.declared.draft.Draft.{Draft}
 use Rattle.kiss_format.specs.declared.fault.KissFault.{KissFault}
 use Rattle.kiss_format.specs.declared.fault.KissFault.TheVariants.{RowClash, NoReset, NoRows}
-use Rattle.kiss_format.specs.declared.fault.ReadFault.{ReadFault}
-use Rattle.kiss_format.specs.declared.fault.ReadFault.TheVariants.{Fault, Memory}
+use Rattle.sis_text.specs.declared.read_fault.ReadFault.{ReadFault}
+use Rattle.sis_text.specs.declared.read_fault.ReadFault.TheVariants.{Fault, Memory}
 use Rattle.kiss_format.proofs.Told.{read_after, all_after, told_more}
 use Rattle.kiss_format.proofs.Drafts.{IsCount, OfWords, HasWidths, IsGood, IsShort, line_said, good_said, good_nothing}
 use Rattle.kiss_format.proofs.Firsts.{currents}
@@ -224,7 +224,7 @@ proper_lines lines proper =
     (λ line p. all_weaker (IsWordOf is_plain) (λ word. is_word word ≡ true) line.words plain_word (recursion_from_All (IsWordOf is_plain) line.words p.each))
     (recursion_from_All (IsProper is_plain) lines proper)
 
-pub reads_sound : (result : Result Machine ReadFault) (lines : List Entry) → All (IsProper is_plain) lines → Reads result (read_machine_lines lines) → IfOk result (λ machine. IsSoundMachine machine)
+pub reads_sound : (result : Result Machine (ReadFault KissFault)) (lines : List Entry) → All (IsProper is_plain) lines → Reads result (read_machine_lines lines) → IfOk result (λ machine. IsSoundMachine machine)
 reads_sound (Ok machine) lines proper reads = read_sound lines machine (proper_lines lines proper) reads
 reads_sound (Err (Fault fault)) lines proper reads = tt
 reads_sound (Err Memory) lines proper reads = tt

@@ -7,8 +7,9 @@ use Rattle.std.proofs.lemmas.List.Folds.{length-prefix_len}
 use Rattle.sis_text.specs.declared.places.Line.{Line}
 use Rattle.sis_text.specs.Entries.{Entry, entry_at}
 use Rattle.kiss_format.specs.Keywords.{kind_of, is_end_kind, before_end}
-use Rattle.kiss_format.specs.declared.fault.ReadFault.{ReadFault}
-use Rattle.kiss_format.specs.declared.fault.ReadFault.TheVariants.{Fault, Memory}
+use Rattle.kiss_format.specs.declared.fault.KissFault.{KissFault}
+use Rattle.sis_text.specs.declared.read_fault.ReadFault.{ReadFault}
+use Rattle.sis_text.specs.declared.read_fault.ReadFault.TheVariants.{Fault, Memory}
 use Rattle.kiss_format.specs.declared.draft.Draft.{Draft}
 use Rattle.kiss_format.specs.Statements.{said_by}
 use Rattle.kiss_format.specs.Lines.{told, states_in, rows_in}
@@ -54,7 +55,7 @@ walk_goes_on source lines i line draft next h is stands right grown =
     stands_on read (entry_at source line) (drop (i + 1) (map (entry_at source) lines)) draft next
     (subst (λ left. Stands read left draft) (entries_left source lines i line h is) stands) right grown
 
-pub walk_fails : (source : List ℕ) (lines : List Line) (i : ℕ) (line : Line) (draft next : Draft) (fault : ReadFault) → i < length lines → line ≡ get_or lines i line → IsBefore source lines i draft
+pub walk_fails : (source : List ℕ) (lines : List Line) (i : ℕ) (line : Line) (draft next : Draft) (fault : ReadFault KissFault) → i < length lines → line ≡ get_or lines i line → IsBefore source lines i draft
     → Takes (Err fault) next (draft_fault draft line.number (said_by (entry_at source line).words)) (with_said (said_by (entry_at source line).words) draft) → Ends (Err fault) next (read_all (map (entry_at source) lines))
 walk_fails source lines i line draft next (Fault fault) h is stands wrong =
     let read = read_all (map (entry_at source) lines) in

@@ -17,8 +17,8 @@ use Rattle.kiss_format.specs.declared.draft.Draft.{Draft}
 use Rattle.kiss_format.specs.declared.keyword.Keyword.{Keyword}
 use Rattle.kiss_format.specs.declared.fault.KissFault.{KissFault}
 use Rattle.kiss_format.specs.declared.fault.KissFault.TheVariants.{RowClash, NoReset, NoRows}
-use Rattle.kiss_format.specs.declared.fault.ReadFault.{ReadFault}
-use Rattle.kiss_format.specs.declared.fault.ReadFault.TheVariants as read_fault
+use Rattle.sis_text.specs.declared.read_fault.ReadFault.{ReadFault}
+use Rattle.sis_text.specs.declared.read_fault.ReadFault.TheVariants as read_fault
 
 -- the state that a machine starts in: the one that is named, otherwise the current state of the
 -- first row that has one
@@ -107,7 +107,7 @@ unfoldable pub outputs_line : List Entry → Option ℕ
 outputs_line lines = header_line is_outputs_kind lines
 
 -- what a reader answers, compared with what it should; want of memory is always allowed
-abbrev pub Reads : Result Machine ReadFault → Result Machine KissFault → Type 0
+abbrev pub Reads : Result Machine (ReadFault KissFault) → Result Machine KissFault → Type 0
 Reads (Ok machine) should = should ≡ Ok machine
 Reads (Err (read_fault.Fault fault)) should = should ≡ Err fault
 Reads (Err read_fault.Memory) should = Unit {0}

@@ -10,8 +10,8 @@ use Rattle.kiss_format.specs.declared.statement.Statement.TheVariants as code
 use Rattle.kiss_format.specs.Lines.{with_states, row_of, form_fault, limit_fault}
 use Rattle.kiss_format.specs.Reader.{whole}
 use Rattle.kiss_format.specs.declared.fault.KissFault.{KissFault}
-use Rattle.kiss_format.specs.declared.fault.ReadFault.{ReadFault}
-use Rattle.kiss_format.specs.declared.fault.ReadFault.TheVariants as read_fault
+use Rattle.sis_text.specs.declared.read_fault.ReadFault.{ReadFault}
+use Rattle.sis_text.specs.declared.read_fault.ReadFault.TheVariants as read_fault
 use Rattle.kiss_format.specs.declared.draft.Draft.{Draft}
 
 -- the statement of a row of the code, without its references
@@ -49,21 +49,23 @@ draft_fault draft number statement = option_or (form_fault draft number statemen
 
 -- the answer and the draft of a step, compared with the fault and the draft that should be; want of
 -- memory is always allowed
-abbrev pub Takes : Result (Unit {0}) ReadFault → Draft → Option KissFault → Draft → Type 0
+abbrev pub Takes : Result (Unit {0}) (ReadFault KissFault) → Draft → Option KissFault → Draft
+    → Type 0
 Takes (Ok done) draft fault should = (fault ≡ None) × (draft ≡ should)
 Takes (Err (read_fault.Fault given)) draft fault should = fault ≡ Some given
 Takes (Err read_fault.Memory) draft fault should = Unit {0}
 
 -- the answer and the draft of the lines, compared with what should be read; want of memory is
 -- always allowed
-abbrev pub Ends : Result (Unit {0}) ReadFault → Draft → Result Machine KissFault → Type 0
+abbrev pub Ends : Result (Unit {0}) (ReadFault KissFault) → Draft → Result Machine KissFault
+    → Type 0
 Ends (Ok done) draft should = should ≡ whole draft
 Ends (Err (read_fault.Fault fault)) draft should = should ≡ Err fault
 Ends (Err read_fault.Memory) draft should = Unit {0}
 
 -- the answer of a search for the reset state, compared with what it should be; want of memory is
 -- always allowed
-abbrev pub Places : Result ℕ ReadFault → Result ℕ KissFault → Type 0
+abbrev pub Places : Result ℕ (ReadFault KissFault) → Result ℕ KissFault → Type 0
 Places (Ok place) should = should ≡ Ok place
 Places (Err (read_fault.Fault fault)) should = should ≡ Err fault
 Places (Err read_fault.Memory) should = Unit {0}
@@ -74,7 +76,8 @@ no_parts = record { name = []; inputs = []; outputs = []; states = []; reset = 0
 
 -- the answer and the result of the last step, compared with what they should be; want of memory is
 -- always allowed
-abbrev pub Makes : Result (Unit {0}) ReadFault → Machine → Result Machine KissFault → Type 0
+abbrev pub Makes : Result (Unit {0}) (ReadFault KissFault) → Machine → Result Machine KissFault
+    → Type 0
 Makes (Ok done) machine should = should ≡ Ok machine
 Makes (Err (read_fault.Fault fault)) machine should = should ≡ Err fault
 Makes (Err read_fault.Memory) machine should = Unit {0}

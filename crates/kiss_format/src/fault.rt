@@ -2,7 +2,6 @@
 //! `specs/Reader.antt`; `ReadFault` adds want of memory.
 
 use circuit_model::Name;
-use std::alloc::{AllocError, AllocFailed};
 
 /// What a limit is on.
 #[derive(Clone, Copy, Debug, PartialEq, Eq)]
@@ -40,32 +39,4 @@ pub enum KissFault {
 }
 
 /// Why a reading ends without a machine.
-#[derive(Debug, Drop)]
-pub enum ReadFault {
-    /// The table has a fault.
-    Fault(KissFault),
-    /// Memory ran out.
-    Memory,
-}
-
-impl From<AllocError> for ReadFault {
-    ghost use Rattle.std.specs.Prelude.{◌≡◌};
-    ghost use Rattle.kiss_format.specs.declared.fault.ReadFault.TheVariants.{Memory};
-
-    ghost from_gives = { λ _ fault. fault ≡ Memory };
-
-    fn from(_error: AllocError) -> Self {
-        ReadFault::Memory
-    }
-}
-
-impl<T: Drop> From<AllocFailed<T>> for ReadFault {
-    ghost use Rattle.std.specs.Prelude.{◌≡◌};
-    ghost use Rattle.kiss_format.specs.declared.fault.ReadFault.TheVariants.{Memory};
-
-    ghost from_gives = { λ _ fault. fault ≡ Memory };
-
-    fn from(_error: AllocFailed<T>) -> Self {
-        ReadFault::Memory
-    }
-}
+pub type ReadFault = sis_text::ReadFault<KissFault>;
