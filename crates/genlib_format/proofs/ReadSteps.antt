@@ -5,8 +5,8 @@ use Rattle.genlib_format.specs.declared.entries.Entry.TheVariants as the_entry
 use Rattle.genlib_format.specs.declared.gates.GateLines.{GateLines}
 use Rattle.genlib_format.specs.declared.gate.Gate.{Gate}
 use Rattle.genlib_format.specs.declared.fault.LibFault.{LibFault}
-use Rattle.genlib_format.specs.declared.fault.ReadFault.{ReadFault}
-use Rattle.genlib_format.specs.declared.fault.ReadFault.TheVariants as read_fault
+use Rattle.sis_text.specs.declared.read_fault.ReadFault.{ReadFault}
+use Rattle.sis_text.specs.declared.read_fault.ReadFault.TheVariants as read_fault
 use Rattle.genlib_format.specs.Answers.{Leaves, Reads}
 use Rattle.genlib_format.specs.Faults.{first_of, lines_fault}
 use Rattle.genlib_format.specs.Reader.{gate_of, gate_named, twice_fault, settled, one_too_many, entry_fault, gates_with, onward, read_entries}
@@ -27,7 +27,7 @@ pub entries_go_on : (count : ℕ) (gates new : List Gate) (entry : Entry) (rest 
     → read_entries (count + 1) new rest ≡ read_entries count gates items
 entries_go_on count gates new entry rest items is value = entry_taken count gates new entry rest value.0 value.1 ∙ ap (read_entries count gates) (sym is)
 
-pub entries_fail : (fault : ReadFault) (count : ℕ) (gates new : List Gate) (entry : Entry) (rest items : List Entry) (all : Result (List Gate) LibFault) → items ≡ entry ∷ rest
+pub entries_fail : (fault : ReadFault LibFault) (count : ℕ) (gates new : List Gate) (entry : Entry) (rest items : List Entry) (all : Result (List Gate) LibFault) → items ≡ entry ∷ rest
     → Leaves (Err fault) new (entry_fault count gates entry) (gates_with gates entry) → read_entries count gates items ≡ all → Reads (Err fault) all
 entries_fail (read_fault.Fault fault) count gates new entry rest items all is value so = sym so ∙ ap (read_entries count gates) is ∙ entry_refused count gates entry rest fault value
 entries_fail read_fault.Memory count gates new entry rest items all is value so = tt

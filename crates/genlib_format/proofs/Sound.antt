@@ -19,8 +19,8 @@ use Rattle.genlib_format.specs.declared.fault.LibFault.{LibFault}
 use Rattle.genlib_format.specs.declared.fault.LibFault.TheVariants.{BadExpr, BadPin, GateTwice}
 use Rattle.genlib_format.specs.declared.fault.LibFault.TheVariants.{Limit}
 use Rattle.genlib_format.specs.declared.fault.LimitKind.TheVariants as limit
-use Rattle.genlib_format.specs.declared.fault.ReadFault.{ReadFault}
-use Rattle.genlib_format.specs.declared.fault.ReadFault.TheVariants as read_fault
+use Rattle.sis_text.specs.declared.read_fault.ReadFault.{ReadFault}
+use Rattle.sis_text.specs.declared.read_fault.ReadFault.TheVariants as read_fault
 use Rattle.genlib_format.specs.Words.{words_in}
 use Rattle.genlib_format.specs.Entries.{entries_of}
 use Rattle.genlib_format.specs.Spelling.{nodes_in}
@@ -249,7 +249,8 @@ nothing_sound =
     record { each = tt; cells = λ i j gate other at there e. absurd (let off = at in cc) }
 
 -- what a file is read as is sound
-pub library_sound : (bytes : List ℕ) (r : Result (List Gate) ReadFault) → Reads r (library_of bytes)
+pub library_sound : (bytes : List ℕ) (r : Result (List Gate) (ReadFault LibFault))
+    → Reads r (library_of bytes)
     → IfOk r IsSoundGates
 unfolding library_of
 library_sound bytes (Ok gates) e =

@@ -2,7 +2,6 @@
 //! `specs/Reader.antt`; `ReadFault` adds want of memory.
 
 use sis_base::Name;
-use std::alloc::{AllocError, AllocFailed};
 
 /// What a limit is on.
 #[derive(Clone, Copy, Debug, PartialEq, Eq)]
@@ -36,32 +35,4 @@ pub enum LibFault {
 }
 
 /// Why a reading ends without a library.
-#[derive(Debug, Drop)]
-pub enum ReadFault {
-    /// The file has a fault.
-    Fault(LibFault),
-    /// Memory ran out.
-    Memory,
-}
-
-impl From<AllocError> for ReadFault {
-    ghost use Rattle.std.specs.Prelude.{◌≡◌};
-    ghost use Rattle.genlib_format.specs.declared.fault.ReadFault.TheVariants.{Memory};
-
-    ghost from_gives = { λ _ fault. fault ≡ Memory };
-
-    fn from(_error: AllocError) -> Self {
-        ReadFault::Memory
-    }
-}
-
-impl<T: Drop> From<AllocFailed<T>> for ReadFault {
-    ghost use Rattle.std.specs.Prelude.{◌≡◌};
-    ghost use Rattle.genlib_format.specs.declared.fault.ReadFault.TheVariants.{Memory};
-
-    ghost from_gives = { λ _ fault. fault ≡ Memory };
-
-    fn from(_error: AllocFailed<T>) -> Self {
-        ReadFault::Memory
-    }
-}
+pub type ReadFault = sis_text::ReadFault<LibFault>;
