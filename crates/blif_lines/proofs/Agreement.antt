@@ -14,15 +14,14 @@ use Rattle.sis_text.specs.Entries.{Entry}
 use Rattle.line_words.specs.LineWords.{other_words}
 use Rattle.genlib_format.specs.declared.gate.Gate.{Gate as TheGate}
 use Rattle.blif_lines.specs.Keyword.{kind_of, is_row, is_row_kind}
-use Rattle.blif_lines.specs.Lines.{when, first_of, input_words, is_none, is_end_kind, is_ended, begins_part, has_part, begins_kiss, has_kiss, part_behind, is_behind, is_latch, is_node_kind, nodes_in, joined, output_character, has_phase_of, table_row_fault, heading, rows_behind, row_fault_under, row_fault, model_fault, ports_fault, clock_fault, names_fault, latch_fault, gate_fault, subckt_fault, start_fault, place_fault, fault_as, line_fault}
+use Rattle.blif_lines.specs.Lines.{first_of, input_words, is_none, is_end_kind, is_ended, begins_part, has_part, begins_kiss, has_kiss, part_behind, is_latch, is_node_kind, nodes_in, joined, output_character, heading, rows_behind, is_table_kind, first_mark, growing, table_under, told_before, fault_as, line_fault}
 use Rattle.blif_lines.specs.Reader.{first_line_fault, of_lines, model_lines, part_lines, listed_inputs, listed_outputs, listed_ports, listed_clocks, is_inputs_kind, is_outputs_kind, lists_inputs, lists_outputs, names_beside, inputs_in, outputs_in, ports_in, clocks_in, latch_output, gate_tables, driven_by, read_within, read_by, drives_in, reads_within, reads_in, latch_of, latches_by, latches_in, timing_of, is_latch_line, latch_lines, timing_at, first_timing, timing_in, same_timing, mixed_clock, gated_clock, row_of, phase_by, table_of, tables_by, tables_in, named_by, model_name, circuit_of, model_names_fault, whole_fault, has_nodes, is_instance_kind, has_instances, is_machine, head_of, head_fault, unless, read_whole, first_fault, read_lines}
-use Rattle.blif_lines.specs.Steps.{name_with, is_table_kind, begun_by, reading_with, last_with, mark_for, width_of, reading_fault, fault_behind, next_fault, with_row, row_behind, tables_with, place_at, place_of, draft_fault, with_more, timing_with, mixed_with, with_line, take_as, take_entry, take_entries, no_lines, model_of, part_of, listed_or, Kept, kept_of, timing_fault, drivers_fault, tables_fault, listed_fault, kept_fault, read_kept_as, read_kept, finished, finish}
+use Rattle.blif_lines.specs.Steps.{name_with, begun_by, reading_with, last_with, mark_for, width_of, known_mark, growing_of, before_of, with_row, row_behind, tables_with, place_at, place_of, with_more, timing_with, mixed_with, with_line, take_as, take_entry, take_entries, no_lines, model_of, part_of, listed_or, Kept, kept_of, timing_fault, drivers_fault, tables_fault, listed_fault, kept_fault, read_kept_as, read_kept, finished, finish}
 use Rattle.blif_lines.specs.declared.content.Content.{Content}
 use Rattle.blif_lines.specs.declared.content.Content.TheVariants as content
 use Rattle.blif_lines.specs.declared.keyword.Keyword.{Keyword}
 use Rattle.blif_lines.specs.declared.keyword.Keyword.TheVariants.{Model, Inputs, Outputs, Clock, Names, Latch, Gate, Subckt, StartKiss, DontCare, End, Skipped, Row, Other}
 use Rattle.blif_lines.specs.declared.fault.BlifFault.{BlifFault}
-use Rattle.blif_lines.specs.declared.fault.BlifFault.TheVariants.{UnknownWord}
 use Rattle.blif_lines.specs.declared.draft.Reading.{Reading}
 use Rattle.blif_lines.specs.declared.draft.Draft.{Draft}
 use Rattle.blif_lines.proofs.Faults.{begins, own_latch, own_subckt, own_place, right_latch, right_gate}
@@ -69,15 +68,6 @@ pub phase_is : (width : ℕ) (rows : List (List ℕ)) (bytes : List ℕ) → pha
 phase_is width [] bytes = refl
 phase_is width (row ∷ rows) bytes = refl
 
-pub has_mark : (width : ℕ) (rows : List (List ℕ)) (bytes : List ℕ) → nat_eq (output_character width bytes) (mark_by width (rows ++ bytes ∷ [])) ≡ has_phase_of width rows bytes
-has_mark width [] bytes = same_number (output_character width bytes)
-has_mark width (row ∷ rows) bytes = refl
-
-pub fault_read : (width : ℕ) (words rows : List (List ℕ)) (number : ℕ) (bytes : List ℕ) → width ≡ length words - 1 → reading_fault (read_with words rows) number bytes ≡ table_row_fault width rows number bytes
-unfolding reading_fault table_row_fault table_of
-fault_read width words rows number bytes e =
-    rw (width_is words rows, sym e, mark_is width rows bytes, has_mark width rows bytes, length-map rows (row_of width)) refl
-
 pub row_read : (words rows : List (List ℕ)) (bytes : List ℕ) → with_row (read_with words rows) bytes ≡ read_with words (rows ++ bytes ∷ [])
 unfolding with_row table_of
 row_read words rows bytes =
@@ -91,26 +81,22 @@ row_behind_is (Some line) rows bytes = by (is_table_kind (kind_of line))
     by true = ap Some (row_read (other_words line.words) rows bytes)
     by false = refl
 
--- the same lines are wrong
-pub row_fault_is : (head : Option Entry) (rows : List (List ℕ)) (number : ℕ) (bytes : List ℕ) → fault_behind (reading_from head rows) number bytes ≡ row_fault head rows number bytes
-row_fault_is None rows number bytes = refl
-row_fault_is (Some line) rows number bytes = by (kind_of line)
+-- what is known of that table
+mark_known : (width : ℕ) (rows : List (List ℕ)) → known_mark (map (row_of width) rows) (mark_by width rows) ≡ first_mark width rows
+mark_known width [] = refl
+mark_known width (row ∷ rows) = refl
+
+growing_read : (words rows : List (List ℕ)) → growing_of (read_with words rows) ≡ growing (length words - 1) rows
+unfolding table_of
+growing_read words rows = rw (width_is words rows, mark_known (length words - 1) rows, length-map rows (row_of (length words - 1))) refl
+
+growing_is : (head : Option Entry) (rows : List (List ℕ)) → option_map growing_of (reading_from head rows) ≡ table_under head rows
+growing_is None rows = refl
+growing_is (Some line) rows = by (is_table_kind (kind_of line))
   where
-    by : (k : Keyword) → fault_behind (read_if (is_table_kind k) (other_words line.words) rows) number bytes ≡ row_fault_under k (other_words line.words) rows number bytes
-    by Model = refl
-    by Inputs = refl
-    by Outputs = refl
-    by Clock = refl
-    by Names = fault_read (length (other_words line.words) - 1) (other_words line.words) rows number bytes refl
-    by Latch = refl
-    by Gate = refl
-    by Subckt = refl
-    by StartKiss = refl
-    by DontCare = refl
-    by End = refl
-    by Skipped = refl
-    by Row = refl
-    by Other = refl
+    by : (b : Bool) → option_map growing_of (read_if b (other_words line.words) rows) ≡ (if b then Some (growing (length (other_words line.words) - 1) rows) else None)
+    by true = ap Some (growing_read (other_words line.words) rows)
+    by false = refl
 
 -- what a draft has of the lines before
 pub record Tells (back : List Entry) (draft : Draft) : Type 0 where
@@ -122,37 +108,14 @@ pub record Tells (back : List Entry) (draft : Draft) : Type 0 where
   pub nodes : draft.nodes ≡ nodes_in back
   pub reading : draft.reading ≡ reading_of back
 
-pub place_is : (back : List Entry) (draft : Draft) → Tells back draft → place_of draft ≡ part_behind back
+-- a draft tells of the lines before what they tell
+pub before_is : (back : List Entry) (draft : Draft) → Tells back draft → before_of draft ≡ told_before back
 unfolding place_at part_behind
-place_is back draft t = rw (t.ended, t.part) refl
-
-pub fault_agrees : (library : Option (List TheGate)) (kind : Keyword) (back : List Entry) (draft : Draft) (number : ℕ) (words whole : List (List ℕ)) → Tells back draft → draft_fault library kind draft number words whole ≡ fault_as library kind back number words whole
-unfolding next_fault
-fault_agrees library Model back draft number words whole t = ap (λ b. model_fault b number words) t.begun
-fault_agrees library Inputs back draft number words whole t = ap (λ place. ports_fault place number words) (place_is back draft t)
-fault_agrees library Outputs back draft number words whole t = ap (λ place. ports_fault place number words) (place_is back draft t)
-fault_agrees library Clock back draft number words whole t = ap (λ place. clock_fault place number words) (place_is back draft t)
-fault_agrees library Names back draft number words whole t =
-    ap (λ nodes. names_fault (place_of draft) nodes number words) t.nodes ∙ ap (λ place. names_fault place (nodes_in back) number words) (place_is back draft t)
-fault_agrees library Latch back draft number words whole t =
-    ap (λ nodes. latch_fault (place_of draft) nodes number words) t.nodes ∙ ap (λ place. latch_fault place (nodes_in back) number words) (place_is back draft t)
-fault_agrees library Gate back draft number words whole t =
-    ap (λ nodes. gate_fault library (place_of draft) nodes number words) t.nodes ∙ ap (λ place. gate_fault library place (nodes_in back) number words) (place_is back draft t)
-fault_agrees library Subckt back draft number words whole t = ap (λ place. subckt_fault place number words) (place_is back draft t)
-fault_agrees library StartKiss back draft number words whole t =
-    ap (λ had. start_fault (place_of draft) had number) t.kiss ∙ ap (λ place. start_fault place (has_kiss back) number) (place_is back draft t)
-fault_agrees library DontCare back draft number words whole t = ap (λ place. place_fault place number) (place_is back draft t)
-fault_agrees library End back draft number words whole t = refl
-fault_agrees library Skipped back draft number words whole t = ap (λ place. place_fault place number) (place_is back draft t)
-fault_agrees library Row back draft number words whole t =
-    ap (λ reading. next_fault (place_of draft) reading number (joined whole)) t.reading
-    ∙ ap (λ place. next_fault place (reading_of back) number (joined whole)) (place_is back draft t)
-    ∙ ap (λ fault. first_of (when (is_behind (part_behind back)) (UnknownWord number) ∷ fault ∷ [])) (row_fault_is (heading back) (rows_behind back) number (joined whole))
-fault_agrees library Other back draft number words whole t = refl
+before_is back draft t = rw (t.begun, t.ended, t.part, t.kiss, t.nodes, t.reading, growing_is (heading back) (rows_behind back)) refl
 
 -- the kind and the fault of a line, beside those of the draft
 abbrev pub fault_at : Option (List TheGate) → Draft → Entry → Option BlifFault
-fault_at library draft line = draft_fault library (kind_of line) draft line.number (other_words line.words) line.words
+fault_at library draft line = fault_as library (kind_of line) (before_of draft) line.number (other_words line.words) line.words
 
 abbrev pub next_at : Option (List TheGate) → Draft → Entry → Draft
 next_at library draft line = with_line library (kind_of line) draft line.number (other_words line.words) line.words
@@ -332,7 +295,7 @@ record Right (kind : Keyword) (draft : Draft) (words : List (List ℕ)) : Type 0
 plain : (kind : Keyword) (draft : Draft) (words : List (List ℕ)) → is_instance_kind kind ≡ false → is_latch_line kind ≡ false → begins_part kind ≡ false → Right kind draft words
 plain kind draft words i l p = record { latch = λ h. absurd (cc); instances = λ h. i; latches = λ h. l; part = λ h. p }
 
-right_line : (library : Option (List TheGate)) (kind : Keyword) (draft : Draft) (number : ℕ) (words whole : List (List ℕ)) → draft_fault library kind draft number words whole ≡ None → Right kind draft words
+right_line : (library : Option (List TheGate)) (kind : Keyword) (draft : Draft) (number : ℕ) (words whole : List (List ℕ)) → fault_as library kind (before_of draft) number words whole ≡ None → Right kind draft words
 right_line library Model draft number words whole f = plain Model draft words refl refl refl
 right_line library Inputs draft number words whole f = plain Inputs draft words refl refl refl
 right_line library Outputs draft number words whole f = plain Outputs draft words refl refl refl
@@ -486,7 +449,7 @@ pub model_named : (line : Entry) (lines : List Entry) (begun : Bool) (name : Lis
 unfolding model_name
 model_named line lines begun name e none = rw none (sym (ap (λ k. named_by k (other_words line.words)) e))
 
-name_next : (library : Option (List TheGate)) (kind : Keyword) (line : Entry) (lines : List Entry) (back : List Entry) (draft : Draft) → kind_of line ≡ kind → Tells back draft → draft_fault library kind draft line.number (other_words line.words) line.words ≡ None
+name_next : (library : Option (List TheGate)) (kind : Keyword) (line : Entry) (lines : List Entry) (back : List Entry) (draft : Draft) → kind_of line ≡ kind → Tells back draft → fault_as library kind (before_of draft) line.number (other_words line.words) line.words ≡ None
     → name_with kind draft.name (other_words line.words) ≡ name_after draft.begun draft.name (line ∷ lines)
 name_next library Model line lines back draft e t f = model_named line lines draft.begun draft.name e (begins draft.begun line.number (other_words line.words) f)
 name_next library Inputs line lines back draft e t f = name_other line lines (ap (λ k. named_by k (other_words line.words)) e) draft.begun draft.name t.unnamed
@@ -778,7 +741,7 @@ taken_entry library draft line fault f = ap (λ one. unless one (next_at library
 pub fault_of_line : (library : Option (List TheGate)) (line : Entry) (back : List Entry) (draft : Draft) (fault : Option BlifFault) → fault_at library draft line ≡ fault → Tells back draft → line_fault library back line ≡ fault
 unfolding line_fault
 fault_of_line library line back draft fault f t =
-    sym (fault_agrees library (kind_of line) back draft line.number (other_words line.words) line.words t) ∙ f
+    sym (ap (λ before. fault_as library (kind_of line) before line.number (other_words line.words) line.words) (before_is back draft t)) ∙ f
 
 -- the steps from a draft on come to what the form says of the lines from there on
 pub agree : (library : Option (List TheGate)) (lines back : List Entry) (draft : Draft) → Tells back draft → finish (take_entries library draft lines) ≡ first_fault (first_line_fault library back lines) (finished_by library draft lines)
@@ -907,7 +870,7 @@ undriven_is library (line ∷ lines) back e =
         → is_none (drives_in library (model_lines (line ∷ lines))) ≡ not (has_nodes (model_lines (line ∷ lines)))
     goes_on k is unlike h = rw (own_more line lines (ap begins_part is ∙ unlike), is) h
 
-    by : (k : Keyword) → kind_of line ≡ k → fault_as library k back line.number (other_words line.words) line.words ≡ None → is_none (drives_in library (model_lines lines)) ≡ not (has_nodes (model_lines lines))
+    by : (k : Keyword) → kind_of line ≡ k → fault_as library k (told_before back) line.number (other_words line.words) line.words ≡ None → is_none (drives_in library (model_lines lines)) ≡ not (has_nodes (model_lines lines))
         → is_none (drives_in library (model_lines (line ∷ lines))) ≡ not (has_nodes (model_lines (line ∷ lines)))
     by Model is f rec = goes_on Model is refl rec
     by Inputs is f rec = goes_on Inputs is refl rec

@@ -19,9 +19,9 @@ use Rattle.line_words.specs.LineWords.{other_words, long_name}
 use Rattle.genlib_format.specs.declared.gate.Gate.{Gate as TheGate}
 use Rattle.blif_gates.specs.GateLines.{signals_of}
 use Rattle.blif_lines.specs.Heads.{listed_ports_of}
-use Rattle.blif_lines.specs.Lines.{when, input_words, last_word, long_fault, one_too_many, many_inputs, is_in_model, is_behind, is_latch, latch_names, is_none, model_fault, ports_fault, clock_fault, names_fault, latch_fault, joined}
+use Rattle.blif_lines.specs.Lines.{when, input_words, last_word, long_fault, one_too_many, many_inputs, is_in_model, is_behind, is_latch, latch_names, is_none, model_fault, ports_fault, clock_fault, names_fault, latch_fault, fault_as, joined}
 use Rattle.blif_lines.specs.Reader.{named_by, table_of, latch_of, latch_input, latch_output, timing_of, names_beside, gate_tables, gate_inputs, listed_where}
-use Rattle.blif_lines.specs.Steps.{with_row, row_behind, tables_with, closed, place_at, place_of, draft_fault, with_more, timing_with, with_line, no_lines, model_of, part_of, listed_or, Kept, kept_of, kept_inputs, kept_outputs, kept_circuit, kept_head}
+use Rattle.blif_lines.specs.Steps.{with_row, row_behind, tables_with, closed, place_at, place_of, before_of, with_more, timing_with, with_line, no_lines, model_of, part_of, listed_or, Kept, kept_of, kept_inputs, kept_outputs, kept_circuit, kept_head}
 use Rattle.blif_lines.specs.declared.keyword.Keyword.{Keyword}
 use Rattle.blif_lines.specs.declared.keyword.Keyword.TheVariants.{Model, Inputs, Outputs, Clock, Names, Latch, Gate, Subckt, StartKiss, DontCare, End, Skipped, Row, Other}
 use Rattle.blif_lines.specs.declared.part.Part.{Part}
@@ -152,7 +152,7 @@ some_words place nodes number words f =
     not_when (is_none words) (BadArity number) (none_first (when (is_none words) (BadArity number)) (long_fault words ∷ one_too_many nodes ∷ many_inputs (input_words words) ∷ [])
     (none_later (when (is_behind place) (UnknownWord number)) (when (is_none words) (BadArity number) ∷ long_fault words ∷ one_too_many nodes ∷ many_inputs (input_words words) ∷ []) f))
 
-pub named_kept : (library : Option (List TheGate)) (P : List ℕ → Type 0) (kind : Keyword) (draft : Draft) (number : ℕ) (words whole : List (List ℕ)) → P (codes "top") → AllByRecursion P (mentioned library draft.has_part kind words) → draft_fault library kind draft number words whole ≡ None → Named P draft → Named P (with_line library kind draft number words whole)
+pub named_kept : (library : Option (List TheGate)) (P : List ℕ → Type 0) (kind : Keyword) (draft : Draft) (number : ℕ) (words whole : List (List ℕ)) → P (codes "top") → AllByRecursion P (mentioned library draft.has_part kind words) → fault_as library kind (before_of draft) number words whole ≡ None → Named P draft → Named P (with_line library kind draft number words whole)
 unfolding tables_with
 named_kept library P Model draft number words whole top a f n = record {
   name = name_has P words top a;
@@ -368,7 +368,7 @@ short_ports library true had number words f = absurd (cc)
 short_ports library false true number words f = (tt, tt)
 short_ports library false false number words f = (none_long words f, none_long words f)
 
-pub short_mentioned : (library : Option (List TheGate)) (kind : Keyword) (draft : Draft) (number : ℕ) (words whole : List (List ℕ)) → draft_fault library kind draft number words whole ≡ None → AllByRecursion IsShort (mentioned library draft.has_part kind words)
+pub short_mentioned : (library : Option (List TheGate)) (kind : Keyword) (draft : Draft) (number : ℕ) (words whole : List (List ℕ)) → fault_as library kind (before_of draft) number words whole ≡ None → AllByRecursion IsShort (mentioned library draft.has_part kind words)
 unfolding model_fault clock_fault names_fault latch_fault
 short_mentioned library Model draft number words whole f =
     none_long words (none_first (long_fault words) []

@@ -1,8 +1,9 @@
 -- What is read keeps the limits: each draft does, and each step keeps it so; with it the shape of
 -- tables.
 
-use Rattle.std.specs.Prelude.{◌≡◌, ℕ, ◌+◌, ◌-◌, ◌<◌, ◌≤◌, ◌==◌, length, take, Bool, true, false, not, ◌||◌, bytes_eq, nat_le, nat_lt, Option, Some, None, Ok, List, [], ◌∷◌, ◌++◌, map, slice_index, codes}
+use Rattle.std.specs.Prelude.{◌≡◌, ℕ, ◌+◌, ◌-◌, ◌<◌, ◌≤◌, length, take, Bool, true, false, not, ◌||◌, bytes_eq, nat_le, nat_lt, Option, Some, None, Ok, List, [], ◌∷◌, ◌++◌, map, slice_index, codes}
 use Rattle.std.specs.List.{AllByRecursion}
+use Rattle.std.specs.Option.{option_map}
 use Rattle.std.proofs.Common.{refl, sym, ◌∙◌, ap, subst, arith, eqb-true}
 use Rattle.std.proofs.lemmas.Bool.{leb-false, ltb-false}
 use Rattle.std.proofs.lemmas.List.{length-take-le, length-map, length-append}
@@ -15,10 +16,10 @@ use Rattle.circuit_tables.specs.Folding.{folded}
 use Rattle.line_words.specs.LineWords.{first_word, other_words}
 use Rattle.genlib_format.specs.declared.gate.Gate.{Gate as TheGate}
 use Rattle.blif_gates.specs.GateLines.{read_gate}
-use Rattle.blif_lines.specs.Lines.{when, input_words, long_fault, one_too_many, many_inputs, is_in_model, is_behind, is_init, is_latch_kind, is_latch, latch_names, is_none, is_row_of, output_character, names_fault, latch_fault, joined}
+use Rattle.blif_lines.specs.Lines.{when, input_words, long_fault, one_too_many, many_inputs, is_in_model, is_behind, is_init, is_latch_kind, is_latch, latch_names, is_none, is_row_of, output_character, has_mark, table_row_fault, fault_under, row_fault, names_fault, latch_fault, fault_as, joined}
 use Rattle.blif_lines.specs.Libraries.{IsSoundLibrary}
 use Rattle.blif_lines.specs.Reader.{row_of, table_of, latch_of, init_of, gate_tables}
-use Rattle.blif_lines.specs.Steps.{width_of, mark_with, reading_fault, fault_behind, next_fault, with_row, row_behind, tables_with, closed, place_of, draft_fault, with_line, no_lines, model_of, part_of, kept_of, kept_circuit}
+use Rattle.blif_lines.specs.Steps.{width_of, known_mark, growing_of, before_of, with_row, row_behind, tables_with, closed, place_of, with_line, no_lines, model_of, part_of, kept_of, kept_circuit}
 use Rattle.blif_lines.specs.declared.keyword.Keyword.{Keyword}
 use Rattle.blif_lines.specs.declared.keyword.Keyword.TheVariants.{Model, Inputs, Outputs, Clock, Names, Latch, Gate, Subckt, StartKiss, DontCare, End, Skipped, Row, Other}
 use Rattle.blif_lines.specs.declared.part.Part.{Part}
@@ -138,11 +139,11 @@ some_rows (first ∷ rows) row e = cc
 
 abbrev pub row_causes : Reading → ℕ → List ℕ → List (Option BlifFault)
 row_causes reading number bytes =
-    when (not (output_character (width_of reading) bytes == mark_with reading bytes)) (MixedPhase number)
+    when (not (has_mark (known_mark reading.table.rows reading.mark) (output_character (width_of reading) bytes))) (MixedPhase number)
     ∷ when (nat_le MAX_ROWS (length reading.table.rows)) (Limit limit.Rows (MAX_ROWS + 1)) ∷ []
 
-pub shaped_row : (reading : Reading) (number : ℕ) (bytes : List ℕ) → reading_fault reading number bytes ≡ None → IsShaped reading.table → IsShaped (with_row reading bytes).table
-unfolding reading_fault with_row
+pub shaped_row : (reading : Reading) (number : ℕ) (bytes : List ℕ) → table_row_fault (growing_of reading) number bytes ≡ None → IsShaped reading.table → IsShaped (with_row reading bytes).table
+unfolding table_row_fault with_row
 shaped_row reading number bytes f s =
     let is : is_row_of (width_of reading) bytes ≡ true = not_not_when (is_row_of (width_of reading) bytes) (BadRow number)
     (none_first (when (not (is_row_of (width_of reading) bytes)) (BadRow number)) (row_causes reading number bytes) f) in (
@@ -151,12 +152,12 @@ shaped_row reading number bytes f s =
       λ e. absurd (some_rows reading.table.rows (row_of (width_of reading) bytes) e),
     )
 
-pub good_row : (reading : Reading) (number : ℕ) (bytes : List ℕ) → reading_fault reading number bytes ≡ None → IsGoodTable reading.table → IsGoodTable (with_row reading bytes).table
-unfolding reading_fault with_row
+pub good_row : (reading : Reading) (number : ℕ) (bytes : List ℕ) → table_row_fault (growing_of reading) number bytes ≡ None → IsGoodTable reading.table → IsGoodTable (with_row reading bytes).table
+unfolding table_row_fault with_row
 good_row reading number bytes f s =
     let few : length reading.table.rows < MAX_ROWS = leb-false MAX_ROWS (length reading.table.rows) (not_when (nat_le MAX_ROWS (length reading.table.rows)) (Limit limit.Rows (MAX_ROWS + 1))
     (none_first (when (nat_le MAX_ROWS (length reading.table.rows)) (Limit limit.Rows (MAX_ROWS + 1))) []
-    (none_later (when (not (output_character (width_of reading) bytes == mark_with reading bytes)) (MixedPhase number)) (when (nat_le MAX_ROWS (length reading.table.rows)) (Limit limit.Rows (MAX_ROWS + 1)) ∷ [])
+    (none_later (when (not (has_mark (known_mark reading.table.rows reading.mark) (output_character (width_of reading) bytes))) (MixedPhase number)) (when (nat_le MAX_ROWS (length reading.table.rows)) (Limit limit.Rows (MAX_ROWS + 1)) ∷ [])
     (none_later (when (not (is_row_of (width_of reading) bytes)) (BadRow number)) (row_causes reading number bytes) f)))) in
     record {
       rows = omega (arith, length-append reading.table.rows (row_of (width_of reading) bytes ∷ []));
@@ -172,7 +173,7 @@ good_gate gates cell words table sound e =
 -- have it
 pub record AreKept (library : Option (List TheGate)) (P : Table → Type 0) : Type 0 where
   pub new : (words : List (List ℕ)) → length (input_words words) ≤ MAX_INPUTS → P (table_of words [])
-  pub row : (reading : Reading) (number : ℕ) (bytes : List ℕ) → reading_fault reading number bytes ≡ None → P reading.table → P (with_row reading bytes).table
+  pub row : (reading : Reading) (number : ℕ) (bytes : List ℕ) → table_row_fault (growing_of reading) number bytes ≡ None → P reading.table → P (with_row reading bytes).table
   pub gates : (words : List (List ℕ)) → AllByRecursion P (gate_tables library words)
 
 pub shaped_kept : (library : Option (List TheGate)) → AreKept library IsShaped
@@ -190,7 +191,7 @@ good_kept library sound = record {
   gates = λ words. each_gate library words (AllByRecursion IsGoodTable) tt (λ gates table g e. (good_gate gates (first_word words) (other_words words) table (subst IsSoundLibrary g sound) e, tt));
 }
 
-pub fact_behind : (library : Option (List TheGate)) (P : Table → Type 0) → AreKept library P → (tables : List Table) (reading : Option Reading) (number : ℕ) (bytes : List ℕ) → fault_behind reading number bytes ≡ None → AllByRecursion P (tables_with tables reading) → AllByRecursion P (tables_with tables (row_behind reading bytes))
+pub fact_behind : (library : Option (List TheGate)) (P : Table → Type 0) → AreKept library P → (tables : List Table) (reading : Option Reading) (number : ℕ) (bytes : List ℕ) → fault_under (option_map growing_of reading) number bytes ≡ None → AllByRecursion P (tables_with tables reading) → AllByRecursion P (tables_with tables (row_behind reading bytes))
 unfolding tables_with
 fact_behind library P k tables None number bytes f a = a
 fact_behind library P k tables (Some reading) number bytes f a =
@@ -201,8 +202,8 @@ pub length_behind : (tables : List Table) (reading : Option Reading) (bytes : Li
 length_behind tables None bytes = refl
 length_behind tables (Some reading) bytes = length_with tables (with_row reading bytes) ∙ sym (length_with tables reading)
 
-pub small_kept : (library : Option (List TheGate)) (P : Table → Type 0) → AreKept library P → (kind : Keyword) (draft : Draft) (number : ℕ) (words whole : List (List ℕ)) → draft_fault library kind draft number words whole ≡ None → IsSmallDraft P draft → IsSmallDraft P (with_line library kind draft number words whole)
-unfolding tables_with next_fault
+pub small_kept : (library : Option (List TheGate)) (P : Table → Type 0) → AreKept library P → (kind : Keyword) (draft : Draft) (number : ℕ) (words whole : List (List ℕ)) → fault_as library kind (before_of draft) number words whole ≡ None → IsSmallDraft P draft → IsSmallDraft P (with_line library kind draft number words whole)
+unfolding tables_with row_fault
 small_kept library P k Model draft number words whole f s = s
 small_kept library P k Inputs draft number words whole f s = s
 small_kept library P k Outputs draft number words whole f s = s
@@ -256,8 +257,8 @@ small_kept library P k End draft number words whole f s = s
 small_kept library P k Skipped draft number words whole f s = s
 small_kept library P k Row draft number words whole f s = record {
   tables = fact_behind library P k draft.tables draft.reading number (joined whole)
-      (none_first (fault_behind draft.reading number (joined whole)) []
-      (none_later (when (is_behind (place_of draft)) (UnknownWord number)) (fault_behind draft.reading number (joined whole) ∷ []) f)) s.tables;
+      (none_first (fault_under (option_map growing_of draft.reading) number (joined whole)) []
+      (none_later (when (is_behind (place_of draft)) (UnknownWord number)) (fault_under (option_map growing_of draft.reading) number (joined whole) ∷ []) f)) s.tables;
   model = s.model;
   none = s.none;
   count = ap (λ n. n + (length draft.model_tables + length draft.latches)) (length_behind draft.tables draft.reading (joined whole)) ∙ s.count;

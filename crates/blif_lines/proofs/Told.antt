@@ -20,9 +20,9 @@ use Rattle.circuit_checks.specs.PartChecks.{first_bad_part_name}
 use Rattle.circuit_tables.specs.Folding.{folded}
 use Rattle.genlib_format.specs.declared.gate.Gate.{Gate as TheGate}
 use Rattle.blif_lines.specs.Heads.{listed_ports_of}
-use Rattle.blif_lines.specs.Lines.{first_of, is_latch, joined}
+use Rattle.blif_lines.specs.Lines.{first_of, is_latch, joined, fault_as}
 use Rattle.blif_lines.specs.Reader.{table_of, latch_of, latch_input, latch_output, timing_of, names_beside, gate_tables, gate_inputs, listed_where}
-use Rattle.blif_lines.specs.Steps.{with_row, row_behind, tables_with, closed, place_of, draft_fault, with_more, timing_with, with_line, no_lines, model_of, listed_or, Kept, kept_of, kept_inputs, kept_outputs, kept_leaves, timing_fault, drivers_fault, tables_fault, listed_fault, kept_fault, kept_circuit, kept_head_fault, kept_head, HasApartTables}
+use Rattle.blif_lines.specs.Steps.{with_row, row_behind, tables_with, closed, place_of, before_of, with_more, timing_with, with_line, no_lines, model_of, listed_or, Kept, kept_of, kept_inputs, kept_outputs, kept_leaves, timing_fault, drivers_fault, tables_fault, listed_fault, kept_fault, kept_circuit, kept_head_fault, kept_head, HasApartTables}
 use Rattle.blif_lines.specs.declared.keyword.Keyword.{Keyword}
 use Rattle.blif_lines.specs.declared.keyword.Keyword.TheVariants.{Model, Inputs, Outputs, Clock, Names, Latch, Gate, Subckt, StartKiss, DontCare, End, Skipped, Row, Other}
 use Rattle.blif_lines.specs.declared.fault.BlifFault.{BlifFault}
@@ -229,7 +229,7 @@ pub own_inputs : (had : Bool) (model tables : List Table) (reading : Option Read
 own_inputs true model tables reading bytes = refl
 own_inputs false model tables reading bytes = row_inputs tables reading bytes
 
-pub told_kept : (library : Option (List TheGate)) (kind : Keyword) (draft : Draft) (number : ℕ) (words whole : List (List ℕ)) → draft_fault library kind draft number words whole ≡ None → IsToldDraft draft → IsToldDraft (with_line library kind draft number words whole)
+pub told_kept : (library : Option (List TheGate)) (kind : Keyword) (draft : Draft) (number : ℕ) (words whole : List (List ℕ)) → fault_as library kind (before_of draft) number words whole ≡ None → IsToldDraft draft → IsToldDraft (with_line library kind draft number words whole)
 unfolding tables_with table_of
 told_kept library Model draft number words whole f t = t
 told_kept library Clock draft number words whole f t = t

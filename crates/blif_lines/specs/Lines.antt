@@ -1,9 +1,9 @@
--- What is wrong with one logical line of a model, given the lines before it. Source: BLIF appendix
--- of the SIS report (UCB/ERL M92/41): `.model`, `.inputs`, `.outputs`, `.clock`, `.names` with its
--- rows, `.latch`, `.gate`, `.subckt`, `.start_kiss`, `.exdc` followed by the don't-care part, and
--- `.end`. The order of the causes and the limits are the project's own. The lines of a KISS2 part
--- are not among these lines, except the one that begins it; nor are those of another model. The
--- lines before a line are given newest first.
+-- What is wrong with one logical line of a model, by what the lines before it tell. Source: BLIF
+-- appendix of the SIS report (UCB/ERL M92/41): `.model`, `.inputs`, `.outputs`, `.clock`, `.names`
+-- with its rows, `.latch`, `.gate`, `.subckt`, `.start_kiss`, `.exdc` followed by the don't-care
+-- part, and `.end`. The order of the causes and the limits are the project's own. The lines of a
+-- KISS2 part are not among these lines, except the one that begins it; nor are those of another
+-- model. The lines before a line are given newest first.
 use Rattle.std.specs.Prelude.{ℕ, ◌+◌, ◌-◌, Bool, true, false, not, ◌&&◌, ◌||◌, ◌==◌, nat_le, nat_lt, Option, Some, None, Result, Ok, Err, List, [], ◌∷◌, map, reverse, length, take, drop, find, flat_map, take_while, count_by, codes, bytes_eq, slice_index, if◌then◌else◌}
 use Rattle.std.specs.List.{list_all, list_any}
 use Rattle.std.specs.Option.{option_map}
@@ -160,18 +160,22 @@ is_row_of width bytes =
 abbrev pub output_character : ℕ → List ℕ → ℕ
 output_character width bytes = slice_index bytes width
 
--- whether a row has the output character of its table's first row
-abbrev pub has_phase_of : ℕ → List (List ℕ) → List ℕ → Bool
-has_phase_of width [] bytes = true
-has_phase_of width (row ∷ rows) bytes = output_character width bytes == output_character width row
+-- what is known of a table whose rows are being read: the number of its inputs, the output
+-- character of its first row, if it has a row, and the number of its rows
+pub record Growing : Type 0 where
+  pub width : ℕ
+  pub mark : Option ℕ
+  pub count : ℕ
 
--- what is wrong with bytes as a further row of a table of this width, after these rows
-unfoldable pub table_row_fault : ℕ → List (List ℕ) → ℕ → List ℕ → Option BlifFault
-table_row_fault width rows number bytes = first_of
-    (when (not (is_row_of width bytes)) (BadRow number)
-    ∷ when (not (has_phase_of width rows bytes)) (MixedPhase number)
-    ∷ when (nat_le MAX_ROWS (length rows)) (Limit limit.Rows (MAX_ROWS + 1))
-    ∷ [])
+-- what the lines before a line tell: whether there is one, the part that the line is in, whether a
+-- KISS2 part begins among them, how many tables, latches and gates they have, and the table that a
+-- row would belong to
+pub record Before : Type 0 where
+  pub begun : Bool
+  pub place : Part
+  pub has_kiss : Bool
+  pub nodes : ℕ
+  pub table : Option Growing
 
 -- the newest line that is not a row
 abbrev pub heading : List Entry → Option Entry
@@ -181,15 +185,56 @@ heading back = find (λ line. not (is_row line)) back
 abbrev pub rows_behind : List Entry → List (List ℕ)
 rows_behind back = map (λ (line : Entry). joined line.words) (reverse (take_while is_row back))
 
--- what is wrong with bytes as a row after a heading: a row belongs to a `.names` line
-abbrev pub row_fault_under : Keyword → List (List ℕ) → List (List ℕ) → ℕ → List ℕ → Option BlifFault
-row_fault_under Names words rows number bytes = table_row_fault (length words - 1) rows number bytes
-row_fault_under kind words rows number bytes = Some (BadRow number)
+-- whether a kind is that of tables with rows of their own
+abbrev pub is_table_kind : Keyword → Bool
+is_table_kind Names = true
+is_table_kind kind = false
 
--- what is wrong with bytes as a row after the newest line that is not a row, if there is one
-abbrev pub row_fault : Option Entry → List (List ℕ) → ℕ → List ℕ → Option BlifFault
-row_fault None rows number bytes = Some (BadRow number)
-row_fault (Some line) rows number bytes = row_fault_under (kind_of line) (other_words line.words) rows number bytes
+-- the output character of the first of some rows
+abbrev pub first_mark : ℕ → List (List ℕ) → Option ℕ
+first_mark width [] = None
+first_mark width (row ∷ rows) = Some (output_character width row)
+
+-- a table of this width with these rows
+abbrev pub growing : ℕ → List (List ℕ) → Growing
+growing width rows = record { width = width; mark = first_mark width rows; count = length rows }
+
+-- the table under a heading with these rows: rows belong to a `.names` line
+abbrev pub table_under : Option Entry → List (List ℕ) → Option Growing
+table_under None rows = None
+table_under (Some line) rows = if is_table_kind (kind_of line) then Some (growing (length (other_words line.words) - 1) rows) else None
+
+-- what the lines before a line tell, newest first
+abbrev pub told_before : List Entry → Before
+told_before back = record {
+  begun = not (is_none back);
+  place = part_behind back;
+  has_kiss = has_kiss back;
+  nodes = nodes_in back;
+  table = table_under (heading back) (rows_behind back);
+}
+
+-- whether a byte is the output character of a table, if it has one
+abbrev pub has_mark : Option ℕ → ℕ → Bool
+has_mark None byte = true
+has_mark (Some mark) byte = byte == mark
+
+-- what is wrong with bytes as a further row of a table
+unfoldable pub table_row_fault : Growing → ℕ → List ℕ → Option BlifFault
+table_row_fault table number bytes = first_of
+    (when (not (is_row_of table.width bytes)) (BadRow number)
+    ∷ when (not (has_mark table.mark (output_character table.width bytes))) (MixedPhase number)
+    ∷ when (nat_le MAX_ROWS table.count) (Limit limit.Rows (MAX_ROWS + 1))
+    ∷ [])
+
+-- what is wrong with bytes as a row, by the table that it would belong to
+abbrev pub fault_under : Option Growing → ℕ → List ℕ → Option BlifFault
+fault_under None number bytes = Some (BadRow number)
+fault_under (Some table) number bytes = table_row_fault table number bytes
+
+-- what is wrong with bytes as a row, by the part that it is in too
+unfoldable pub row_fault : Part → Option Growing → ℕ → List ℕ → Option BlifFault
+row_fault place table number bytes = first_of (when (is_behind place) (UnknownWord number) ∷ fault_under table number bytes ∷ [])
 
 -- what is wrong with the words after the first of a `.model` line; `begun` says whether a line
 -- precedes it: where a file has several models, a `.model` line begins the lines of the next one
@@ -258,25 +303,24 @@ start_fault place had number = when (not (is_in_model place) || had) (UnknownWor
 abbrev pub place_fault : Part → ℕ → Option BlifFault
 place_fault place number = when (not (is_in_model place)) (UnknownWord number)
 
--- what is wrong with a line after the lines before it, by its kind: its number, its words after the
--- first, all words
-abbrev pub fault_as : Option (List TheGate) → Keyword → List Entry → ℕ → List (List ℕ) → List (List ℕ) → Option BlifFault
-fault_as library Model back number words whole = model_fault (not (is_none back)) number words
-fault_as library Inputs back number words whole = ports_fault (part_behind back) number words
-fault_as library Outputs back number words whole = ports_fault (part_behind back) number words
-fault_as library Clock back number words whole = clock_fault (part_behind back) number words
-fault_as library Names back number words whole = names_fault (part_behind back) (nodes_in back) number words
-fault_as library Latch back number words whole = latch_fault (part_behind back) (nodes_in back) number words
-fault_as library Gate back number words whole = gate_fault library (part_behind back) (nodes_in back) number words
-fault_as library Subckt back number words whole = subckt_fault (part_behind back) number words
-fault_as library StartKiss back number words whole = start_fault (part_behind back) (has_kiss back) number
-fault_as library DontCare back number words whole = place_fault (part_behind back) number
-fault_as library End back number words whole = None
-fault_as library Skipped back number words whole = place_fault (part_behind back) number
-fault_as library Row back number words whole = first_of
-    (when (is_behind (part_behind back)) (UnknownWord number) ∷ row_fault (heading back) (rows_behind back) number (joined whole) ∷ [])
-fault_as library Other back number words whole = Some (UnknownWord number)
+-- what is wrong with a line, by its kind and what the lines before it tell: its number, its words
+-- after the first, all words
+abbrev pub fault_as : Option (List TheGate) → Keyword → Before → ℕ → List (List ℕ) → List (List ℕ) → Option BlifFault
+fault_as library Model before number words whole = model_fault before.begun number words
+fault_as library Inputs before number words whole = ports_fault before.place number words
+fault_as library Outputs before number words whole = ports_fault before.place number words
+fault_as library Clock before number words whole = clock_fault before.place number words
+fault_as library Names before number words whole = names_fault before.place before.nodes number words
+fault_as library Latch before number words whole = latch_fault before.place before.nodes number words
+fault_as library Gate before number words whole = gate_fault library before.place before.nodes number words
+fault_as library Subckt before number words whole = subckt_fault before.place number words
+fault_as library StartKiss before number words whole = start_fault before.place before.has_kiss number
+fault_as library DontCare before number words whole = place_fault before.place number
+fault_as library End before number words whole = None
+fault_as library Skipped before number words whole = place_fault before.place number
+fault_as library Row before number words whole = row_fault before.place before.table number (joined whole)
+fault_as library Other before number words whole = Some (UnknownWord number)
 
 -- what is wrong with a line, given the lines before it
 unfoldable pub line_fault : Option (List TheGate) → List Entry → Entry → Option BlifFault
-line_fault library back line = fault_as library (kind_of line) back line.number (other_words line.words) line.words
+line_fault library back line = fault_as library (kind_of line) (told_before back) line.number (other_words line.words) line.words

@@ -1,10 +1,10 @@
 -- What the reader keeps of the lines that it has read, and what one more line adds to it. Source:
--- BLIF appendix of the SIS report (UCB/ERL M92/41). Lines and Reader say what a line means, and
--- what all lines mean; here each list grows by what Reader says of the line, so the meaning of a
--- kind of line is defined once. A law says that lines taken one by one are read as Reader says.
--- Only clauses of private functions cite this module, and those of blif_models, which takes lines
--- one by one too.
-use Rattle.std.specs.Prelude.{◌≡◌, ℕ, ◌+◌, Bool, true, false, not, ◌&&◌, ◌||◌, ◌==◌, nat_le, Option, Some, None, Result, Ok, Err, List, [], ◌∷◌, ◌++◌, map, find, length, codes, if◌then◌else◌}
+-- BLIF appendix of the SIS report (UCB/ERL M92/41). Lines and Reader say what is wrong with a line,
+-- what it means, and what all lines mean. Here each list grows by what Reader says of the line, and
+-- the fault of a line is that of Lines, by what the draft tells of the lines before it; so both are
+-- defined once. A law says that lines taken one by one are read as Reader says. Only clauses of
+-- private functions cite this module, and those of blif_models, which takes lines one by one too.
+use Rattle.std.specs.Prelude.{◌≡◌, ℕ, ◌+◌, Bool, true, false, not, ◌&&◌, ◌||◌, ◌==◌, Option, Some, None, Result, Ok, Err, List, [], ◌∷◌, ◌++◌, map, find, length, codes, if◌then◌else◌}
 use Rattle.std.specs.Option.{option_map}
 use Rattle.circuit_model.specs.Names.{has, all_different}
 use Rattle.circuit_model.specs.Soundness.{outputs_of, control_of}
@@ -21,15 +21,14 @@ use Rattle.circuit_tables.specs.Folding.{folded}
 use Rattle.line_words.specs.LineWords.{first_word, other_words}
 use Rattle.genlib_format.specs.declared.gate.Gate.{Gate as TheGate}
 use Rattle.blif_lines.specs.Keyword.{keyword_of, is_row_kind}
-use Rattle.blif_lines.specs.Lines.{when, first_of, input_words, last_word, joined, is_row_of, output_character, is_behind, model_fault, ports_fault, clock_fault, names_fault, latch_fault, gate_fault, subckt_fault, start_fault, place_fault, is_none, is_end_kind, begins_part, begins_kiss, is_node_kind}
+use Rattle.blif_lines.specs.Lines.{Growing, Before, fault_as, is_table_kind, first_of, joined, output_character, is_none, is_end_kind, begins_part, begins_kiss, is_node_kind}
 use Rattle.blif_lines.specs.Reader.{row_of, named_by, table_of, latch_of, timing_of, same_timing, names_beside, gate_tables, listed_where, unless, listed_inputs, listed_outputs, listed_ports, listed_clocks, driven_by, read_by, read_within, is_inputs_kind, is_outputs_kind, is_latch_line, is_instance_kind}
 use Rattle.blif_lines.specs.declared.keyword.Keyword.{Keyword}
-use Rattle.blif_lines.specs.declared.keyword.Keyword.TheVariants.{Model, Inputs, Outputs, Clock, Names, Latch, Gate, Subckt, StartKiss, DontCare, End, Skipped, Row, Other}
+use Rattle.blif_lines.specs.declared.keyword.Keyword.TheVariants.{Model, Gate, DontCare}
 use Rattle.blif_lines.specs.declared.part.Part.{Part}
 use Rattle.blif_lines.specs.declared.part.Part.TheVariants as part
-use Rattle.blif_lines.specs.declared.fault.LimitKind.TheVariants as limit
 use Rattle.blif_lines.specs.declared.fault.BlifFault.{BlifFault}
-use Rattle.blif_lines.specs.declared.fault.BlifFault.TheVariants.{UnknownWord, BadRow, MixedPhase, Limit, NameTwice, MixedClock, GatedClock, TwoDrivers, Undriven, BadExdc, Cycle}
+use Rattle.blif_lines.specs.declared.fault.BlifFault.TheVariants.{NameTwice, MixedClock, GatedClock, TwoDrivers, Undriven, BadExdc, Cycle}
 use Rattle.blif_lines.specs.declared.fault.ReadFault.{ReadFault}
 use Rattle.blif_lines.specs.declared.fault.ReadFault.TheVariants as read_fault
 use Rattle.blif_lines.specs.declared.content.Head.{Head}
@@ -37,7 +36,6 @@ use Rattle.blif_lines.specs.declared.content.Content.{Content}
 use Rattle.blif_lines.specs.declared.content.Content.TheVariants as content
 use Rattle.blif_lines.specs.declared.draft.Reading.{Reading}
 use Rattle.blif_lines.specs.declared.draft.Draft.{Draft}
-use Rattle.sis_base.specs.declared.limits.TheConstants.{MAX_ROWS}
 
 -- the output character that all rows of a table have: that of its first row
 unfoldable pub mark_for : List (List Tri) → ℕ → ℕ → ℕ
@@ -51,23 +49,6 @@ width_of reading = length reading.table.inputs
 -- the output character of the table that is being read, if these bytes are its next row
 abbrev pub mark_with : Reading → List ℕ → ℕ
 mark_with reading bytes = mark_for reading.table.rows reading.mark (output_character (width_of reading) bytes)
-
--- what is wrong with bytes as one more row of the table that is being read
-unfoldable pub reading_fault : Reading → ℕ → List ℕ → Option BlifFault
-reading_fault reading number bytes = first_of
-    (when (not (is_row_of (width_of reading) bytes)) (BadRow number)
-    ∷ when (not (output_character (width_of reading) bytes == mark_with reading bytes)) (MixedPhase number)
-    ∷ when (nat_le MAX_ROWS (length reading.table.rows)) (Limit limit.Rows (MAX_ROWS + 1))
-    ∷ [])
-
--- what is wrong with bytes as a row, by the table that is being read, if there is one
-abbrev pub fault_behind : Option Reading → ℕ → List ℕ → Option BlifFault
-fault_behind None number bytes = Some (BadRow number)
-fault_behind (Some reading) number bytes = reading_fault reading number bytes
-
--- what is wrong with a row, by its part of the file and the table that is being read
-unfoldable pub next_fault : Part → Option Reading → ℕ → List ℕ → Option BlifFault
-next_fault place reading number bytes = first_of (when (is_behind place) (UnknownWord number) ∷ fault_behind reading number bytes ∷ [])
 
 -- the table that is being read, with one more row
 unfoldable pub with_row : Reading → List ℕ → Reading
@@ -103,22 +84,28 @@ place_at ended has_part = if ended then part.Behind else (if has_part then part.
 abbrev pub place_of : Draft → Part
 place_of draft = place_at draft.ended draft.has_part
 
--- what is wrong with the next line: its kind, its number, its words after the first, all its words
-abbrev pub draft_fault : Option (List TheGate) → Keyword → Draft → ℕ → List (List ℕ) → List (List ℕ) → Option BlifFault
-draft_fault library Model draft number words whole = model_fault draft.begun number words
-draft_fault library Inputs draft number words whole = ports_fault (place_of draft) number words
-draft_fault library Outputs draft number words whole = ports_fault (place_of draft) number words
-draft_fault library Clock draft number words whole = clock_fault (place_of draft) number words
-draft_fault library Names draft number words whole = names_fault (place_of draft) draft.nodes number words
-draft_fault library Latch draft number words whole = latch_fault (place_of draft) draft.nodes number words
-draft_fault library Gate draft number words whole = gate_fault library (place_of draft) draft.nodes number words
-draft_fault library Subckt draft number words whole = subckt_fault (place_of draft) number words
-draft_fault library StartKiss draft number words whole = start_fault (place_of draft) draft.has_kiss number
-draft_fault library DontCare draft number words whole = place_fault (place_of draft) number
-draft_fault library End draft number words whole = None
-draft_fault library Skipped draft number words whole = place_fault (place_of draft) number
-draft_fault library Row draft number words whole = next_fault (place_of draft) draft.reading number (joined whole)
-draft_fault library Other draft number words whole = Some (UnknownWord number)
+-- the output character of a table that is being read, if it has a row
+abbrev pub known_mark : List (List Tri) → ℕ → Option ℕ
+known_mark [] mark = None
+known_mark (row ∷ rows) mark = Some mark
+
+-- what is known of the table that is being read
+abbrev pub growing_of : Reading → Growing
+growing_of reading = record {
+  width = width_of reading;
+  mark = known_mark reading.table.rows reading.mark;
+  count = length reading.table.rows;
+}
+
+-- what a draft tells of the lines before the next one
+abbrev pub before_of : Draft → Before
+before_of draft = record {
+  begun = draft.begun;
+  place = place_of draft;
+  has_kiss = draft.has_kiss;
+  nodes = draft.nodes;
+  table = option_map growing_of draft.reading;
+}
 
 -- a list with what a line adds to it, as long as it grows
 abbrev pub with_more : {A : Type 0} → Bool → List A → List A → List A
@@ -141,11 +128,6 @@ mixed_with (Some line) timing number own = Some line
 abbrev pub name_with : Keyword → List ℕ → List (List ℕ) → List ℕ
 name_with Model name words = named_by Model words
 name_with kind name words = name
-
--- whether a kind is that of tables with rows of their own
-abbrev pub is_table_kind : Keyword → Bool
-is_table_kind Names = true
-is_table_kind kind = false
 
 -- tables with that of a `.gate` line, which comes from the library
 abbrev pub cells_with : Option (List TheGate) → Keyword → List Table → List (List ℕ) → List Table
@@ -209,7 +191,7 @@ with_line library kind draft number words whole = record {
 
 -- a line of a kind added to what is kept, or its fault
 unfoldable pub take_as : Option (List TheGate) → Keyword → Draft → ℕ → List (List ℕ) → List (List ℕ) → Result Draft BlifFault
-take_as library kind draft number words whole = unless (draft_fault library kind draft number words whole) (with_line library kind draft number words whole)
+take_as library kind draft number words whole = unless (fault_as library kind (before_of draft) number words whole) (with_line library kind draft number words whole)
 
 -- the draft with one more line
 unfoldable pub take_entry : Option (List TheGate) → Draft → Entry → Result Draft BlifFault

@@ -7,14 +7,15 @@
 //! gates, none means that there is room for one more.
 
 ghost use Rattle.std.specs.Prelude.{◌≡◌, ◌<◌, ◌==◌, Some, None, length, IfSome};
+ghost use Rattle.std.specs.Option.{option_map};
 ghost use Rattle.line_words.specs.LineWords.{texts};
-ghost use Rattle.blif_lines.specs.Lines.{long_fault, one_too_many, is_init, is_latch_kind, is_latch_end, is_latch, latch_names, is_in_model, is_behind, model_fault, ports_fault, clock_fault, names_fault, latch_fault, subckt_fault, start_fault, place_fault};
-ghost use Rattle.blif_lines.specs.Steps.{reading_fault, next_fault};
+ghost use Rattle.blif_lines.specs.Lines.{long_fault, one_too_many, is_init, is_latch_kind, is_latch_end, is_latch, latch_names, is_in_model, is_behind, model_fault, ports_fault, clock_fault, names_fault, latch_fault, subckt_fault, start_fault, place_fault, table_row_fault, row_fault};
+ghost use Rattle.blif_lines.specs.Steps.{growing_of};
 
 use crate::draft::Reading;
 use crate::fault::{BlifFault, LimitKind};
 use crate::part::Part;
-use crate::row::{is_row, mark_of};
+use crate::row::{has_mark, is_row};
 use crate::subckt_words::long_subckt_name;
 use crate::word_list::{first_words, front_words};
 use line_words::long_name;
@@ -236,17 +237,16 @@ pub fn place_fault(place: Part, number: usize) -> Option<BlifFault>
 }
 
 /// What is wrong with bytes as one more row of the table that is being read.
-#[tactic(auto, unfolding(crate::specs::Steps::reading_fault, crate::specs::Lines::first_of))]
+#[tactic(auto, unfolding(crate::specs::Lines::table_row_fault, crate::specs::Lines::first_of))]
 fn reading_fault(reading: &Reading, number: usize, bytes: &[u8]) -> Option<BlifFault>
-    ensures value { result ≡ reading_fault reading.now number bytes.now }
+    ensures value { result ≡ table_row_fault (growing_of reading.now) number bytes.now }
     ensures room { result ≡ None → length reading.now.table.inputs < length bytes.now }
 {
     let width = reading.table.inputs.len();
     if !is_row(width, bytes) {
         return Some(BlifFault::BadRow(number));
     }
-    let mark = mark_of(reading.table.rows.as_slice(), reading.mark, bytes[width]);
-    if bytes[width] != mark {
+    if !has_mark(reading.table.rows.as_slice(), reading.mark, bytes[width]) {
         return Some(BlifFault::MixedPhase(number));
     }
     if reading.table.rows.len() >= MAX_ROWS {
@@ -256,14 +256,15 @@ fn reading_fault(reading: &Reading, number: usize, bytes: &[u8]) -> Option<BlifF
 }
 
 /// What is wrong with bytes as a row after the lines before it.
-#[tactic(auto, unfolding(crate::specs::Steps::next_fault, crate::specs::Lines::first_of))]
+#[tactic(auto, unfolding(crate::specs::Lines::row_fault, crate::specs::Lines::first_of))]
 pub fn row_fault(
     place: Part,
     reading: &Option<Reading>,
     number: usize,
     bytes: &[u8],
 ) -> Option<BlifFault>
-    ensures value { result ≡ next_fault place reading.now number bytes.now }
+    ensures value { result ≡ row_fault place (option_map growing_of reading.now) number
+        bytes.now }
     ensures room { result ≡ None → IfSome reading.now
         (λ one. length one.table.inputs < length bytes.now) }
 {

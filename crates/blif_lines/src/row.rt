@@ -3,8 +3,8 @@
 
 ghost use Rattle.std.specs.Prelude.{◌≡◌, ◌<◌, ◌++◌, ◌∷◌, [], true, length, IfOk};
 ghost use Rattle.std.specs.List.{list_all};
-ghost use Rattle.blif_lines.specs.Lines.{is_output_character, is_row_of};
-ghost use Rattle.blif_lines.specs.Steps.{mark_for};
+ghost use Rattle.blif_lines.specs.Lines.{is_output_character, is_row_of, has_mark};
+ghost use Rattle.blif_lines.specs.Steps.{mark_for, known_mark};
 
 use circuit_model::{Row, Rows};
 use line_words::are_characters;
@@ -27,6 +27,16 @@ pub fn is_row(width: usize, bytes: &[u8]) -> bool
         return false;
     }
     are_characters(&bytes[..width]) && are_output_characters(&bytes[width..])
+}
+
+/// Whether a byte is the output character that these rows have, if there is one.
+pub fn has_mark(rows: &[Row], mark: u8, byte: u8) -> bool
+    ensures { result ≡ has_mark (known_mark rows.now mark) byte }
+{
+    match rows {
+        [] => true,
+        [_, ..] => byte == mark,
+    }
 }
 
 /// The output character that all rows have, after one more row with `byte`.

@@ -18,7 +18,7 @@ use Rattle.blif_lines.specs.Heads.{IsSoundHead, HasShortHead}
 use Rattle.blif_lines.specs.Libraries.{IsSoundLibrary}
 use Rattle.blif_lines.specs.Limits.{HasShortNames}
 use Rattle.blif_lines.specs.Keyword.{kind_of}
-use Rattle.blif_lines.specs.Lines.{first_of, part_behind, nodes_in, fault_as, line_fault}
+use Rattle.blif_lines.specs.Lines.{first_of, part_behind, nodes_in, told_before, fault_as, line_fault}
 use Rattle.blif_lines.specs.Reader.{model_lines, has_instances, model_name, first_fault, read_lines}
 use Rattle.blif_lines.proofs.Faults.{none_first, none_later}
 use Rattle.blif_lines.proofs.Named.{some_words}
@@ -43,7 +43,7 @@ line_named : (library : Option (List TheGate)) (back : List Entry) (line : Entry
 unfolding line_fault
 line_named library back line none is =
     some_words (part_behind back) (nodes_in back) line.number (other_words line.words)
-    (sym (ap (λ (kind : Keyword). fault_as library kind back line.number (other_words line.words) line.words) is) ∙ none)
+    (sym (ap (λ (kind : Keyword). fault_as library kind (told_before back) line.number (other_words line.words) line.words) is) ∙ none)
 
 lines_named : (library : Option (List TheGate)) (earlier : List (List ℕ)) (back lines : List Entry) → lines_fault library earlier back lines ≡ None → AllByRecursion NamesSome lines
 unfolding lines_fault

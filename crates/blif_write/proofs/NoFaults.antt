@@ -24,7 +24,7 @@ use Rattle.netlist.specs.Lines.{pair_word, gate_line, lines_with_gates}
 use Rattle.netlist.specs.declared.mapped.Placed.{Placed}
 use Rattle.blif_gates.specs.GateLines.{signals_of}
 use Rattle.blif_lines.specs.Keyword.{keyword_of, kind_of}
-use Rattle.blif_lines.specs.Lines.{when, is_none, one_too_many, many_inputs, first_of, input_words, is_ended, has_part, part_behind, is_behind, nodes_in, long_fault, is_init, is_latch_kind, is_latch, latch_names, joined, heading, rows_behind, is_row_of, has_phase_of, model_fault, ports_fault, clock_fault, names_fault, latch_fault, library_fault, gate_fault, place_fault, table_row_fault, row_fault, fault_as, line_fault}
+use Rattle.blif_lines.specs.Lines.{when, is_none, one_too_many, many_inputs, first_of, input_words, is_ended, has_part, part_behind, is_behind, nodes_in, long_fault, is_init, is_latch_kind, is_latch, latch_names, joined, heading, rows_behind, is_row_of, output_character, first_mark, growing, table_under, has_mark, model_fault, ports_fault, clock_fault, names_fault, latch_fault, library_fault, gate_fault, place_fault, table_row_fault, fault_under, row_fault, told_before, fault_as, line_fault}
 use Rattle.blif_lines.specs.Reader.{first_line_fault}
 use Rattle.blif_lines.specs.declared.keyword.Keyword.{Keyword}
 use Rattle.blif_lines.specs.declared.keyword.Keyword.TheVariants.{Model, Inputs, Outputs, Clock, Names, Latch, Gate, DontCare, Row}
@@ -203,34 +203,34 @@ abbrev HasWidth : ℕ → List Tri → Type 0
 HasWidth width row = length row ≡ width
 
 -- as a row of a table of this width, after these rows
-row_fits : (width number : ℕ) (phase : Bool) (row : List Tri) (done : List (List Tri)) → length row ≡ width → AllByRecursion (HasWidth width) done → length done < MAX_ROWS → table_row_fault width (map (row_text phase) done) number (row_text phase row) ≡ None
+row_fits : (width number : ℕ) (phase : Bool) (row : List Tri) (done : List (List Tri)) → length row ≡ width → AllByRecursion (HasWidth width) done → length done < MAX_ROWS → table_row_fault (growing width (map (row_text phase) done)) number (row_text phase row) ≡ None
 unfolding table_row_fault
 row_fits width number phase row done e h few =
     let n : length (map (row_text phase) done) ≡ length done = length-map done (row_text phase) in
-    none_of (when (not (is_row_of width (row_text phase row))) (BadRow number) ∷ when (not (has_phase_of width (map (row_text phase) done) (row_text phase row))) (MixedPhase number) ∷ when (leb MAX_ROWS (length (map (row_text phase) done))) (Limit limit.Rows (MAX_ROWS + 1)) ∷ []) (
+    none_of (when (not (is_row_of width (row_text phase row))) (BadRow number) ∷ when (not (has_mark (first_mark width (map (row_text phase) done)) (output_character width (row_text phase row)))) (MixedPhase number) ∷ when (leb MAX_ROWS (length (map (row_text phase) done))) (Limit limit.Rows (MAX_ROWS + 1)) ∷ []) (
       not_unless (is_row_of width (row_text phase row)) (BadRow number) (row_taken width phase row e),
       (
-        not_unless (has_phase_of width (map (row_text phase) done) (row_text phase row)) (MixedPhase number) (phase_taken width phase row done e h),
+        not_unless (has_mark (first_mark width (map (row_text phase) done)) (output_character width (row_text phase row))) (MixedPhase number) (phase_taken width phase row done e h),
         (not_when (leb MAX_ROWS (length (map (row_text phase) done))) (Limit limit.Rows (MAX_ROWS + 1)) (lt-leb MAX_ROWS (length (map (row_text phase) done)) (omega (arith, n, few))), tt),
       ),
     )
 
-under_names : (table : Table) (place number : ℕ) (rows : List (List ℕ)) (bytes : List ℕ) → row_fault (Some (entry place (names_line table))) rows number bytes ≡ table_row_fault (length table.inputs) rows number bytes
+under_names : (table : Table) (place number : ℕ) (rows : List (List ℕ)) (bytes : List ℕ) → fault_under (table_under (Some (entry place (names_line table))) rows) number bytes ≡ table_row_fault (growing (length table.inputs) rows) number bytes
 unfolding kind_of keyword_of
-under_names table place number rows bytes = ap (λ (width : ℕ). table_row_fault width rows number bytes) (names_width table)
+under_names table place number rows bytes = ap (λ (width : ℕ). table_row_fault (growing width rows) number bytes) (names_width table)
 
 row_line_taken : (library : Option (List TheGate)) (table : Table) (place number : ℕ) (row : List Tri) (done : List (List Tri)) (back : List Entry) → is_behind (part_behind back) ≡ false → Reads table place done back → length row ≡ length table.inputs → AllByRecursion (HasWidth (length table.inputs)) done → length done < MAX_ROWS → line_fault library back (entry number (row_line table.phase row)) ≡ None
-unfolding line_fault kind_of
+unfolding line_fault kind_of row_fault
 row_line_taken library table place number row done back going reads e h few =
     let line = row_line table.phase row in
-    let fault : row_fault (heading back) (rows_behind back) number (joined (line.first ∷ line.others)) ≡ None =
-    ap (λ (o : Option Entry). row_fault o (rows_behind back) number (joined (line.first ∷ line.others))) reads.under
-    ∙ ap (λ (rows : List (List ℕ)). row_fault (Some (entry place (names_line table))) rows number (joined (line.first ∷ line.others))) reads.rows
-    ∙ ap (row_fault (Some (entry place (names_line table))) (map (row_text table.phase) done) number) (row_joined table.phase row)
+    let fault : fault_under (table_under (heading back) (rows_behind back)) number (joined (line.first ∷ line.others)) ≡ None =
+    ap (λ (o : Option Entry). fault_under (table_under o (rows_behind back)) number (joined (line.first ∷ line.others))) reads.under
+    ∙ ap (λ (rows : List (List ℕ)). fault_under (table_under (Some (entry place (names_line table))) rows) number (joined (line.first ∷ line.others))) reads.rows
+    ∙ ap (fault_under (table_under (Some (entry place (names_line table))) (map (row_text table.phase) done)) number) (row_joined table.phase row)
     ∙ under_names table place number (map (row_text table.phase) done) (row_text table.phase row)
     ∙ row_fits (length table.inputs) number table.phase row done e h few in
-    ap (λ (kind : Keyword). fault_as library kind back number line.others (line.first ∷ line.others)) (row_kind table.phase row)
-    ∙ none_of (when (is_behind (part_behind back)) (UnknownWord number) ∷ row_fault (heading back) (rows_behind back) number (joined (line.first ∷ line.others)) ∷ [])
+    ap (λ (kind : Keyword). fault_as library kind (told_before back) number line.others (line.first ∷ line.others)) (row_kind table.phase row)
+    ∙ none_of (when (is_behind (part_behind back)) (UnknownWord number) ∷ fault_under (table_under (heading back) (rows_behind back)) number (joined (line.first ∷ line.others)) ∷ [])
     (not_when (is_behind (part_behind back)) (UnknownWord number) going, (fault, tt))
 
 -- after some lines the others have no fault

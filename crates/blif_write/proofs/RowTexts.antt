@@ -9,7 +9,7 @@ use Rattle.circuit_model.specs.declared.circuit.Table.{Table}
 use Rattle.circuit_model.specs.Text.{character, digit_of_phase, row_line}
 use Rattle.circuit_model.specs.Soundness.{IsShaped}
 use Rattle.line_words.specs.LineWords.{character_of}
-use Rattle.blif_lines.specs.Lines.{is_output_character, joined, is_row_of, output_character, has_phase_of, input_words, last_word}
+use Rattle.blif_lines.specs.Lines.{is_output_character, joined, is_row_of, output_character, first_mark, has_mark, input_words, last_word}
 use Rattle.blif_lines.specs.Reader.{row_of, phase_by, table_of}
 use Rattle.kiss_format.proofs.WrittenRows.{characters_pass}
 
@@ -59,7 +59,7 @@ same_phase : (phase : Bool) → (phase_byte phase == phase_byte phase) ≡ true
 same_phase true = refl
 same_phase false = refl
 
-pub phase_taken : (width : ℕ) (phase : Bool) (row : List Tri) (done : List (List Tri)) → length row ≡ width → AllByRecursion (λ (row : List Tri). length row ≡ width) done → has_phase_of width (map (row_text phase) done) (row_text phase row) ≡ true
+pub phase_taken : (width : ℕ) (phase : Bool) (row : List Tri) (done : List (List Tri)) → length row ≡ width → AllByRecursion (λ (row : List Tri). length row ≡ width) done → has_mark (first_mark width (map (row_text phase) done)) (output_character width (row_text phase row)) ≡ true
 phase_taken width phase row [] e h = refl
 phase_taken width phase row (first ∷ done) e h = rw (text_output width phase row e, text_output width phase first h.0) (same_phase phase)
 
