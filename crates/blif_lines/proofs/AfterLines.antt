@@ -8,11 +8,11 @@ use Rattle.sis_text.specs.Entries.{Entry}
 use Rattle.genlib_format.specs.declared.gate.Gate.{Gate}
 use Rattle.blif_lines.specs.Keyword.{kind_of}
 use Rattle.blif_lines.specs.Lines.{line_fault}
-use Rattle.blif_lines.specs.Reader.{has_instances, model_lines}
-use Rattle.blif_lines.specs.Steps.{take_entry, take_entries, no_lines, Kept, kept_of}
+use Rattle.blif_lines.specs.Reader.{has_instances, model_lines, Told}
+use Rattle.blif_lines.specs.Steps.{take_entry, take_entries, no_lines, told_of}
 use Rattle.blif_lines.specs.declared.fault.BlifFault.{BlifFault}
 use Rattle.blif_lines.specs.declared.draft.Draft.{Draft}
-use Rattle.blif_lines.proofs.Agreement.{Tells, nothing_told, tells_kept, kept_by, kept_on, kept_end, fault_at, next_at, taken_entry, fault_of_line}
+use Rattle.blif_lines.proofs.Agreement.{Tells, nothing_told, tells_kept, told_end, told_on, ends_told, fault_at, next_at, taken_entry, fault_of_line}
 
 -- a line before others that are taken without a fault
 pub one_taken : {R : Type 0} (library : Option (List Gate)) (line : Entry) (lines : List Entry) (draft last : Draft)
@@ -37,18 +37,18 @@ tells_last library (line ∷ lines) back draft last t e =
     (λ f rest. subst (λ told. Tells told last) (sym (newest_first line lines back))
     (tells_last library lines (line ∷ back) (next_at library draft line) last (tells_kept library line back draft t) rest)) e
 
-pub kept_last : (library : Option (List Gate)) (lines back : List Entry) (draft last : Draft) → Tells back draft → take_entries library draft lines ≡ Ok last → kept_of last ≡ kept_by library draft.has_part draft lines
+pub last_told : (library : Option (List Gate)) (lines back : List Entry) (draft last : Draft) → Tells back draft → take_entries library draft lines ≡ Ok last → told_of last ≡ told_end library draft.has_part draft lines
 unfolding take_entries
-kept_last library [] back draft last t e =
-    let same : draft ≡ last = cc in subst (λ (one : Draft). kept_of one ≡ kept_by library draft.has_part draft []) same (kept_end library back draft t draft.has_part refl)
-kept_last library (line ∷ lines) back draft last t e =
+last_told library [] back draft last t e =
+    let same : draft ≡ last = cc in subst (λ (one : Draft). told_of one ≡ told_end library draft.has_part draft []) same (ends_told library back draft t draft.has_part refl)
+last_told library (line ∷ lines) back draft last t e =
     one_taken library line lines draft last
-    (λ f rest. kept_last library lines (line ∷ back) (next_at library draft line) last (tells_kept library line back draft t) rest
-    ∙ kept_on library line lines back draft t f) e
+    (λ f rest. last_told library lines (line ∷ back) (next_at library draft line) last (tells_kept library line back draft t) rest
+    ∙ told_on library line lines back draft t f) e
 
 -- an instance is kept exactly if the model has one
 pub instances_last : (library : Option (List Gate)) (lines : List Entry) (last : Draft) → take_entries library no_lines lines ≡ Ok last → last.has_instances ≡ has_instances (model_lines lines)
-instances_last library lines last e = ap (λ (kept : Kept). kept.has_instances) (kept_last library lines [] no_lines last nothing_told e)
+instances_last library lines last e = ap (λ (told : Told). told.has_instances) (last_told library lines [] no_lines last nothing_told e)
 
 -- one line more has the fault that it has after the lines before it
 pub fault_next : (library : Option (List Gate)) (lines : List Entry) (draft : Draft) (line : Entry) → take_entries library no_lines lines ≡ Ok draft → result_err (take_entry library draft line) ≡ line_fault library (reverse lines) line

@@ -14,11 +14,10 @@ use Rattle.sis_text.specs.Entries.{Entry}
 use Rattle.line_words.specs.LineWords.{other_words}
 use Rattle.genlib_format.specs.declared.gate.Gate.{Gate as TheGate}
 use Rattle.blif_lines.specs.Keyword.{kind_of, is_row, is_row_kind}
-use Rattle.blif_lines.specs.Lines.{first_of, input_words, is_none, is_end_kind, is_ended, begins_part, has_part, begins_kiss, has_kiss, part_behind, is_latch, is_node_kind, nodes_in, joined, output_character, heading, rows_behind, is_table_kind, first_mark, growing, table_under, told_before, fault_as, line_fault}
-use Rattle.blif_lines.specs.Reader.{first_line_fault, of_lines, model_lines, part_lines, listed_inputs, listed_outputs, listed_ports, listed_clocks, is_inputs_kind, is_outputs_kind, lists_inputs, lists_outputs, names_beside, inputs_in, outputs_in, ports_in, clocks_in, latch_output, gate_tables, driven_by, read_within, read_by, drives_in, reads_within, reads_in, latch_of, latches_by, latches_in, timing_of, is_latch_line, latch_lines, timing_at, first_timing, timing_in, same_timing, mixed_clock, gated_clock, row_of, phase_by, table_of, tables_by, tables_in, named_by, model_name, circuit_of, model_names_fault, whole_fault, has_nodes, is_instance_kind, has_instances, is_machine, head_of, head_fault, unless, read_whole, first_fault, read_lines}
-use Rattle.blif_lines.specs.Steps.{name_with, begun_by, reading_with, last_with, mark_for, width_of, known_mark, growing_of, before_of, with_row, row_behind, tables_with, place_at, place_of, with_more, timing_with, mixed_with, with_line, take_as, take_entry, take_entries, no_lines, model_of, part_of, listed_or, Kept, kept_of, timing_fault, drivers_fault, tables_fault, listed_fault, kept_fault, read_kept_as, read_kept, finished, finish}
+use Rattle.blif_lines.specs.Lines.{input_words, is_none, is_end_kind, is_ended, begins_part, has_part, begins_kiss, has_kiss, part_behind, is_latch, is_node_kind, nodes_in, joined, output_character, heading, rows_behind, is_table_kind, first_mark, growing, table_under, told_before, fault_as, line_fault}
+use Rattle.blif_lines.specs.Reader.{Told, told_by, first_line_fault, of_lines, model_lines, part_lines, listed_inputs, listed_outputs, listed_ports, listed_clocks, is_inputs_kind, is_outputs_kind, lists_inputs, lists_outputs, names_beside, inputs_in, outputs_in, ports_in, clocks_in, latch_output, gate_tables, driven_by, read_within, read_by, drives_in, reads_within, reads_in, latch_of, latches_by, latches_in, timing_of, is_latch_line, latch_lines, timing_at, first_timing, timing_in, same_timing, mixed_clock, row_of, phase_by, table_of, tables_by, tables_in, named_by, model_name, has_nodes, is_instance_kind, has_instances, unless, first_fault, read_lines, read_told}
+use Rattle.blif_lines.specs.Steps.{name_with, begun_by, reading_with, last_with, mark_for, width_of, known_mark, growing_of, before_of, with_row, row_behind, tables_with, place_at, place_of, with_more, timing_with, mixed_with, with_line, take_as, take_entry, take_entries, no_lines, model_of, part_of, listed_or, told_of, finished, finish}
 use Rattle.blif_lines.specs.declared.content.Content.{Content}
-use Rattle.blif_lines.specs.declared.content.Content.TheVariants as content
 use Rattle.blif_lines.specs.declared.keyword.Keyword.{Keyword}
 use Rattle.blif_lines.specs.declared.keyword.Keyword.TheVariants.{Model, Inputs, Outputs, Clock, Names, Latch, Gate, Subckt, StartKiss, DontCare, End, Skipped, Row, Other}
 use Rattle.blif_lines.specs.declared.fault.BlifFault.{BlifFault}
@@ -220,54 +219,23 @@ abbrev pub mixed_after : Option ℕ → Option Timing → List Entry → Option 
 mixed_after None timing lines = option_map (λ (line : Entry). line.number) (find (λ line. not (same_timing timing (timing_at line))) lines)
 mixed_after (Some number) timing lines = Some number
 
--- what is kept in the end of a draft, where these lines follow, these of the model itself, with
--- these tables and those of the don't-care part
-abbrev pub kept_after : Option (List TheGate) → Draft → List Entry → List Entry → List Table → List Table → Kept
-kept_after library draft lines own tables part = record {
-  has_kiss = draft.has_kiss || has_kiss lines;
-  has_instances = draft.has_instances || has_instances own;
-  name = name_after draft.begun draft.name lines;
-  lists_inputs = draft.lists_inputs || lists_inputs own;
-  inputs = draft.inputs ++ of_lines listed_inputs own;
-  lists_outputs = draft.lists_outputs || lists_outputs own;
-  outputs = draft.outputs ++ of_lines listed_outputs own;
-  ports = draft.ports ++ of_lines listed_ports own;
-  clocks = draft.clocks ++ of_lines listed_clocks own;
-  drives = draft.drives ++ of_lines (driven_by library) own;
-  reads = draft.reads ++ of_lines (read_by library) own;
-  inner = inner_after library draft.lists_inputs draft.inner own;
-  timing = timing_after draft.latches draft.timing (latch_lines own);
-  mixed = mixed_after draft.mixed (timing_after draft.latches draft.timing (latch_lines own)) (latch_lines own);
-  latches = draft.latches ++ of_lines latches_by own;
-  tables = tables;
-  dont_care = part;
-}
-
--- the tables in the end of a draft, where these lines follow in its part
-abbrev pub last_tables : Option (List TheGate) → Draft → List Entry → List Table
-last_tables library draft lines = draft.tables ++ tables_after library draft.reading lines
-
-abbrev pub kept_by : Option (List TheGate) → Bool → Draft → List Entry → Kept
-kept_by library true draft lines = kept_after library draft lines [] draft.model_tables (last_tables library draft lines)
-kept_by library false draft lines = kept_after library draft lines (model_lines lines) (last_tables library draft (model_lines lines)) (tables_in library (part_lines lines))
-
-abbrev pub finished_by : Option (List TheGate) → Draft → List Entry → Result Content BlifFault
-finished_by library draft lines = read_kept (kept_by library draft.has_part draft lines)
-
-abbrev kept_with : Bool → Bool → List ℕ → Bool → List (List ℕ) → Bool → List (List ℕ) → List (List ℕ) → List (List ℕ) → List (List ℕ) → List (List ℕ) → List (List ℕ) → Option Timing → Option ℕ → List TheLatch → List Table → List Table → Kept
-kept_with kiss instances name li inputs lo outputs ports clocks drives reads inner timing mixed latches tables dont_care = record {
+-- what is told by these parts; the ports are those that are listed, or found
+abbrev told_with : Bool → Bool → List ℕ → Bool → List (List ℕ) → Bool → List (List ℕ) → List (List ℕ) → List (List ℕ) → List (List ℕ) → List (List ℕ) → List (List ℕ) → Option Timing → Option ℕ → List TheLatch → List Table → List Table → Told
+told_with kiss instances name li inputs lo outputs ports clocks drives reads inner timing mixed latches tables dont_care = record {
   has_kiss = kiss;
+  has_nodes = not (is_none drives);
   has_instances = instances;
   name = name;
   lists_inputs = li;
-  inputs = inputs;
+  listed_inputs = inputs;
   lists_outputs = lo;
-  outputs = outputs;
+  listed_outputs = outputs;
   ports = ports;
+  inputs = listed_or li inputs (names_beside drives inner);
+  outputs = listed_or lo outputs (names_beside reads drives);
   clocks = clocks;
   drives = drives;
   reads = reads;
-  inner = inner;
   timing = timing;
   mixed = mixed;
   latches = latches;
@@ -275,14 +243,35 @@ kept_with kiss instances name li inputs lo outputs ports clocks drives reads inn
   dont_care = dont_care;
 }
 
-pub kept_same : (k l : Kept) → k.has_kiss ≡ l.has_kiss → k.has_instances ≡ l.has_instances → k.name ≡ l.name → k.lists_inputs ≡ l.lists_inputs → k.inputs ≡ l.inputs → k.lists_outputs ≡ l.lists_outputs → k.outputs ≡ l.outputs → k.ports ≡ l.ports → k.clocks ≡ l.clocks
-    → k.drives ≡ l.drives → k.reads ≡ l.reads → k.inner ≡ l.inner → k.timing ≡ l.timing → k.mixed ≡ l.mixed → k.latches ≡ l.latches → k.tables ≡ l.tables → k.dont_care ≡ l.dont_care → k ≡ l
-kept_same k l z r a b c d e f g h i j m n o p q = same k.has_kiss k.has_instances k.name k.lists_inputs k.inputs k.lists_outputs k.outputs k.ports k.clocks k.drives k.reads k.inner k.timing k.mixed k.latches k.tables k.dont_care z r a b c d e f g h i j m n o p q
-  where
-    same : (kiss instances : Bool) (name : List ℕ) (li : Bool) (inputs : List (List ℕ)) (lo : Bool) (outputs ports clocks drives reads inner : List (List ℕ)) (timing : Option Timing) (mixed : Option ℕ) (latches : List TheLatch) (tables dont_care : List Table)
-        → kiss ≡ l.has_kiss → instances ≡ l.has_instances → name ≡ l.name → li ≡ l.lists_inputs → inputs ≡ l.inputs → lo ≡ l.lists_outputs → outputs ≡ l.outputs → ports ≡ l.ports → clocks ≡ l.clocks → drives ≡ l.drives → reads ≡ l.reads → inner ≡ l.inner → timing ≡ l.timing → mixed ≡ l.mixed → latches ≡ l.latches → tables ≡ l.tables → dont_care ≡ l.dont_care
-        → kept_with kiss instances name li inputs lo outputs ports clocks drives reads inner timing mixed latches tables dont_care ≡ l
-    same kiss instances name li inputs lo outputs ports clocks drives reads inner timing mixed latches tables dont_care z r a b c d e f g h i j m n o p q = rw (z, r, a, b, c, d, e, f, g, h, i, j, m, n, o, p, q) refl
+told_same : {kiss kiss2 instances instances2 : Bool} {name name2 : List ℕ} {li li2 : Bool} {inputs inputs2 : List (List ℕ)} {lo lo2 : Bool} {outputs outputs2 ports ports2 clocks clocks2 drives drives2 reads reads2 inner inner2 : List (List ℕ)} {timing timing2 : Option Timing} {mixed mixed2 : Option ℕ} {latches latches2 : List TheLatch} {tables tables2 part part2 : List Table}
+    → kiss ≡ kiss2 → instances ≡ instances2 → name ≡ name2 → li ≡ li2 → inputs ≡ inputs2 → lo ≡ lo2 → outputs ≡ outputs2 → ports ≡ ports2 → clocks ≡ clocks2 → drives ≡ drives2 → reads ≡ reads2 → inner ≡ inner2 → timing ≡ timing2 → mixed ≡ mixed2 → latches ≡ latches2 → tables ≡ tables2 → part ≡ part2
+    → told_with kiss instances name li inputs lo outputs ports clocks drives reads inner timing mixed latches tables part ≡ told_with kiss2 instances2 name2 li2 inputs2 lo2 outputs2 ports2 clocks2 drives2 reads2 inner2 timing2 mixed2 latches2 tables2 part2
+told_same z r a b c d e f g h i j m n o p q = rw (z, r, a, b, c, d, e, f, g, h, i, j, m, n, o, p, q) refl
+
+-- what is told in the end of a draft, where these lines follow, these of the model itself, with
+-- these tables and those of the don't-care part
+abbrev pub told_after : Option (List TheGate) → Draft → List Entry → List Entry → List Table → List Table → Told
+told_after library draft lines own tables part =
+    told_with (draft.has_kiss || has_kiss lines) (draft.has_instances || has_instances own) (name_after draft.begun draft.name lines)
+    (draft.lists_inputs || lists_inputs own) (draft.inputs ++ of_lines listed_inputs own)
+    (draft.lists_outputs || lists_outputs own) (draft.outputs ++ of_lines listed_outputs own)
+    (draft.ports ++ of_lines listed_ports own) (draft.clocks ++ of_lines listed_clocks own)
+    (draft.drives ++ of_lines (driven_by library) own) (draft.reads ++ of_lines (read_by library) own)
+    (inner_after library draft.lists_inputs draft.inner own)
+    (timing_after draft.latches draft.timing (latch_lines own))
+    (mixed_after draft.mixed (timing_after draft.latches draft.timing (latch_lines own)) (latch_lines own))
+    (draft.latches ++ of_lines latches_by own) tables part
+
+-- the tables in the end of a draft, where these lines follow in its part
+abbrev pub last_tables : Option (List TheGate) → Draft → List Entry → List Table
+last_tables library draft lines = draft.tables ++ tables_after library draft.reading lines
+
+abbrev pub told_end : Option (List TheGate) → Bool → Draft → List Entry → Told
+told_end library true draft lines = told_after library draft lines [] draft.model_tables (last_tables library draft lines)
+told_end library false draft lines = told_after library draft lines (model_lines lines) (last_tables library draft (model_lines lines)) (tables_in library (part_lines lines))
+
+abbrev pub finished_by : Option (List TheGate) → Draft → List Entry → Result Content BlifFault
+finished_by library draft lines = read_told (told_end library draft.has_part draft lines)
 
 -- what a line without a fault is: a latch is right, and a line of the model alone does not come
 -- after the line that begins the part
@@ -528,12 +517,12 @@ tables_next library Other line lines draft e unlike = closed_other library draft
 
 -- one line more in the model
 own_step : (library : Option (List TheGate)) (line : Entry) (lines own : List Entry) (part : List Table) (back : List Entry) (draft : Draft) → Tells back draft → fault_at library draft line ≡ None → draft.has_part ≡ false → begins_part (kind_of line) ≡ false
-    → kept_after library (next_at library draft line) lines own (last_tables library (next_at library draft line) own) part ≡ kept_after library draft (line ∷ lines) (line ∷ own) (last_tables library draft (line ∷ own)) part
+    → told_after library (next_at library draft line) lines own (last_tables library (next_at library draft line) own) part ≡ told_after library draft (line ∷ lines) (line ∷ own) (last_tables library draft (line ∷ own)) part
 unfolding has_kiss has_instances lists_inputs lists_outputs
 own_step library line lines own part back draft t f h unlike =
     let right = right_line library (kind_of line) draft line.number (other_words line.words) line.words f in
     let timing = timing_next line own draft.latches draft.timing right.latch in
-    kept_same _ _
+    told_same
     (swap (begins_kiss (kind_of line)) draft.has_kiss (has_kiss lines))
     (swap (is_instance_kind (kind_of line)) draft.has_instances (has_instances own))
     (name_next library (kind_of line) line lines back draft refl t f)
@@ -557,7 +546,7 @@ still_put : {A : Type 0} (had : Bool) (items more : List A) → had ≡ true →
 still_put had items more h = ap (λ all. all ++ []) (more_kept had items more h)
 
 part_step : (library : Option (List TheGate)) (line : Entry) (lines back : List Entry) (draft : Draft) → Tells back draft → fault_at library draft line ≡ None → draft.has_part ≡ true
-    → kept_by library true (next_at library draft line) lines ≡ kept_by library true draft (line ∷ lines)
+    → told_end library true (next_at library draft line) lines ≡ told_end library true draft (line ∷ lines)
 unfolding has_kiss
 part_step library line lines back draft t f h =
     let right = right_line library (kind_of line) draft line.number (other_words line.words) line.words f in
@@ -567,7 +556,7 @@ part_step library line lines back draft t f h =
     let latches : Bool → List TheLatch = λ b. if b then draft.latches ++ latch_of words else draft.latches in
     let timing : Bool → Option Timing = λ b. if b then timing_with draft.latches draft.timing (timing_of words) else draft.timing in
     let mixed : Bool → Option ℕ = λ b. if b then mixed_with draft.mixed (timing_with draft.latches draft.timing (timing_of words)) line.number (timing_of words) else draft.mixed in
-    kept_same _ _
+    told_same
     (swap (begins_kiss (kind_of line)) draft.has_kiss (has_kiss lines))
     (ap (λ b. (b || draft.has_instances) || has_instances []) (right.instances h))
     (name_next library (kind_of line) line lines back draft refl t f)
@@ -633,10 +622,10 @@ tables_end library tables (Some reading) = refl
 
 -- the model ends
 own_end : (library : Option (List TheGate)) (line : Entry) (lines back : List Entry) (draft : Draft) → kind_of line ≡ DontCare → Tells back draft
-    → kept_by library true (with_line library DontCare draft line.number (other_words line.words) line.words) lines ≡ kept_after library draft (line ∷ lines) [] (last_tables library draft []) (tables_in library (line ∷ lines))
+    → told_end library true (with_line library DontCare draft line.number (other_words line.words) line.words) lines ≡ told_after library draft (line ∷ lines) [] (last_tables library draft []) (tables_in library (line ∷ lines))
 unfolding has_kiss
 own_end library line lines back draft e t =
-    kept_same _ _
+    told_same
     (ap (λ k. draft.has_kiss || (begins_kiss k || has_kiss lines)) (sym e))
     refl
     (name_other line lines (ap (λ k. named_by k (other_words line.words)) e) draft.begun draft.name t.unnamed)
@@ -645,38 +634,38 @@ own_end library line lines back draft e t =
     (sym (tables_other library DontCare line lines e refl))
 
 part_begun : (library : Option (List TheGate)) (line : Entry) (lines back : List Entry) (draft : Draft) → kind_of line ≡ DontCare → Tells back draft
-    → kept_by library true (with_line library DontCare draft line.number (other_words line.words) line.words) lines ≡ kept_by library false draft (line ∷ lines)
+    → told_end library true (with_line library DontCare draft line.number (other_words line.words) line.words) lines ≡ told_end library false draft (line ∷ lines)
 part_begun library line lines back draft e t =
     own_end library line lines back draft e t
-    ∙ sym (ap (λ own. kept_after library draft (line ∷ lines) own (last_tables library draft own) (tables_in library (part_lines (line ∷ lines)))) (own_ends line lines (ap begins_part e))
-    ∙ ap (λ rest. kept_after library draft (line ∷ lines) [] (last_tables library draft []) (tables_in library rest)) (part_here line lines (ap begins_part e)))
+    ∙ sym (ap (λ own. told_after library draft (line ∷ lines) own (last_tables library draft own) (tables_in library (part_lines (line ∷ lines)))) (own_ends line lines (ap begins_part e))
+    ∙ ap (λ rest. told_after library draft (line ∷ lines) [] (last_tables library draft []) (tables_in library rest)) (part_here line lines (ap begins_part e)))
 
 own_kept : (library : Option (List TheGate)) (line : Entry) (lines back : List Entry) (draft : Draft) → Tells back draft → fault_at library draft line ≡ None → draft.has_part ≡ false → begins_part (kind_of line) ≡ false
-    → kept_by library false (next_at library draft line) lines ≡ kept_by library false draft (line ∷ lines)
+    → told_end library false (next_at library draft line) lines ≡ told_end library false draft (line ∷ lines)
 own_kept library line lines back draft t f h unlike =
     own_step library line lines (model_lines lines) (tables_in library (part_lines lines)) back draft t f h unlike
-    ∙ sym (ap (λ own. kept_after library draft (line ∷ lines) own (last_tables library draft own) (tables_in library (part_lines (line ∷ lines)))) (own_more line lines unlike)
-    ∙ ap (λ rest. kept_after library draft (line ∷ lines) (line ∷ model_lines lines) (last_tables library draft (line ∷ model_lines lines)) (tables_in library rest)) (part_later line lines unlike))
+    ∙ sym (ap (λ own. told_after library draft (line ∷ lines) own (last_tables library draft own) (tables_in library (part_lines (line ∷ lines)))) (own_more line lines unlike)
+    ∙ ap (λ rest. told_after library draft (line ∷ lines) (line ∷ model_lines lines) (last_tables library draft (line ∷ model_lines lines)) (tables_in library rest)) (part_later line lines unlike))
 
--- what is kept in the end is the same, seen from before a line and from after it
-pub kept_on : (library : Option (List TheGate)) (line : Entry) (lines back : List Entry) (draft : Draft) → Tells back draft → fault_at library draft line ≡ None
-    → kept_by library (next_at library draft line).has_part (next_at library draft line) lines ≡ kept_by library draft.has_part draft (line ∷ lines)
-kept_on library line lines back draft t f = by draft.has_part (begins_part (kind_of line)) refl refl
+-- what is told in the end is the same, seen from before a line and from after it
+pub told_on : (library : Option (List TheGate)) (line : Entry) (lines back : List Entry) (draft : Draft) → Tells back draft → fault_at library draft line ≡ None
+    → told_end library (next_at library draft line).has_part (next_at library draft line) lines ≡ told_end library draft.has_part draft (line ∷ lines)
+told_on library line lines back draft t f = by draft.has_part (begins_part (kind_of line)) refl refl
   where
     next : Draft
     next = next_at library draft line
 
-    by : (had begin : Bool) → draft.has_part ≡ had → begins_part (kind_of line) ≡ begin → kept_by library next.has_part next lines ≡ kept_by library draft.has_part draft (line ∷ lines)
+    by : (had begin : Bool) → draft.has_part ≡ had → begins_part (kind_of line) ≡ begin → told_end library next.has_part next lines ≡ told_end library draft.has_part draft (line ∷ lines)
     by true begin h unlike =
-        ap (λ b. kept_by library b next lines) (either (begins_part (kind_of line)) draft.has_part h)
+        ap (λ b. told_end library b next lines) (either (begins_part (kind_of line)) draft.has_part h)
         ∙ part_step library line lines back draft t f h
-        ∙ sym (ap (λ b. kept_by library b draft (line ∷ lines)) h)
+        ∙ sym (ap (λ b. told_end library b draft (line ∷ lines)) h)
     by false true h is =
-        ap (λ b. kept_by library b next lines) (ap (λ b. b || draft.has_part) is)
+        ap (λ b. told_end library b next lines) (ap (λ b. b || draft.has_part) is)
         ∙ begun (kind_of line) refl is
-        ∙ sym (ap (λ b. kept_by library b draft (line ∷ lines)) h)
+        ∙ sym (ap (λ b. told_end library b draft (line ∷ lines)) h)
       where
-        begun : (k : Keyword) → kind_of line ≡ k → begins_part k ≡ true → kept_by library true (with_line library k draft line.number (other_words line.words) line.words) lines ≡ kept_by library false draft (line ∷ lines)
+        begun : (k : Keyword) → kind_of line ≡ k → begins_part k ≡ true → told_end library true (with_line library k draft line.number (other_words line.words) line.words) lines ≡ told_end library false draft (line ∷ lines)
         begun DontCare e is = part_begun library line lines back draft e t
         begun Model e is = absurd (cc)
         begun Inputs e is = absurd (cc)
@@ -692,15 +681,15 @@ kept_on library line lines back draft t f = by draft.has_part (begins_part (kind
         begun Row e is = absurd (cc)
         begun Other e is = absurd (cc)
     by false false h unlike =
-        ap (λ b. kept_by library b next lines) (ap (λ b. b || draft.has_part) unlike ∙ h)
+        ap (λ b. told_end library b next lines) (ap (λ b. b || draft.has_part) unlike ∙ h)
         ∙ own_kept library line lines back draft t f h unlike
-        ∙ sym (ap (λ b. kept_by library b draft (line ∷ lines)) h)
+        ∙ sym (ap (λ b. told_end library b draft (line ∷ lines)) h)
 
 -- after the last line
-ended : (library : Option (List TheGate)) (back : List Entry) (draft : Draft) → Tells back draft → (tables part : List Table) → (kept_of draft).tables ≡ tables → (kept_of draft).dont_care ≡ part → kept_of draft ≡ kept_after library draft [] [] tables part
+ended : (library : Option (List TheGate)) (back : List Entry) (draft : Draft) → Tells back draft → (tables part : List Table) → (told_of draft).tables ≡ tables → (told_of draft).dont_care ≡ part → told_of draft ≡ told_after library draft [] [] tables part
 unfolding has_kiss has_instances lists_inputs lists_outputs
 ended library back draft t tables part of_model of_part =
-    kept_same _ _
+    told_same
     (or_nothing draft.has_kiss)
     (or_nothing draft.has_instances)
     (named_end draft.begun draft.name t.unnamed)
@@ -719,20 +708,20 @@ ended library back draft t tables part of_model of_part =
     of_model
     of_part
 
-pub kept_end : (library : Option (List TheGate)) (back : List Entry) (draft : Draft) → Tells back draft → (had : Bool) → draft.has_part ≡ had → kept_of draft ≡ kept_by library had draft []
+pub ends_told : (library : Option (List TheGate)) (back : List Entry) (draft : Draft) → Tells back draft → (had : Bool) → draft.has_part ≡ had → told_of draft ≡ told_end library had draft []
 unfolding model_lines part_lines tables_in
-kept_end library back draft t had h =
+ends_told library back draft t had h =
     let last = tables_with draft.tables draft.reading in
-    let own : (kept_of draft).tables ≡ model_of had draft.model_tables last = ap (λ b. model_of b draft.model_tables last) h in
-    let part : (kept_of draft).dont_care ≡ part_of had last = ap (λ b. part_of b last) h in
+    let own : (told_of draft).tables ≡ model_of had draft.model_tables last = ap (λ b. model_of b draft.model_tables last) h in
+    let part : (told_of draft).dont_care ≡ part_of had last = ap (λ b. part_of b last) h in
     by had own part
   where
-    by : (had : Bool) → (kept_of draft).tables ≡ model_of had draft.model_tables (tables_with draft.tables draft.reading) → (kept_of draft).dont_care ≡ part_of had (tables_with draft.tables draft.reading) → kept_of draft ≡ kept_by library had draft []
+    by : (had : Bool) → (told_of draft).tables ≡ model_of had draft.model_tables (tables_with draft.tables draft.reading) → (told_of draft).dont_care ≡ part_of had (tables_with draft.tables draft.reading) → told_of draft ≡ told_end library had draft []
     by true own part = ended library back draft t draft.model_tables (last_tables library draft []) own (part ∙ tables_end library draft.tables draft.reading)
     by false own part = ended library back draft t (last_tables library draft []) [] (own ∙ tables_end library draft.tables draft.reading) part
 
 pub finish_end : (library : Option (List TheGate)) (back : List Entry) (draft : Draft) → Tells back draft → finished draft ≡ finished_by library draft []
-finish_end library back draft t = ap read_kept (kept_end library back draft t draft.has_part refl)
+finish_end library back draft t = ap read_told (ends_told library back draft t draft.has_part refl)
 
 pub taken_entry : (library : Option (List TheGate)) (draft : Draft) (line : Entry) (fault : Option BlifFault) → fault_at library draft line ≡ fault → take_entry library draft line ≡ unless fault (next_at library draft line)
 unfolding take_entry take_as kind_of
@@ -757,7 +746,7 @@ agree library (line ∷ lines) back draft t =
         → finish (take_entries library draft (line ∷ lines)) ≡ first_fault (first_line_fault library back (line ∷ lines)) (finished_by library draft (line ∷ lines))
     step None f rec =
         rw (taken_entry library draft line None f, fault_of_line library line back draft None f t)
-        (rec f ∙ ap (first_fault (first_line_fault library (line ∷ back) lines)) (ap read_kept (kept_on library line lines back draft t f)))
+        (rec f ∙ ap (first_fault (first_line_fault library (line ∷ back) lines)) (ap read_told (told_on library line lines back draft t f)))
     step (Some fault) f rec =
         rw (taken_entry library draft line (Some fault) f, fault_of_line library line back draft (Some fault) f t) refl
 
@@ -773,7 +762,7 @@ nothing_told = record {
   reading = refl;
 }
 
--- what is kept of all lines is what the form says of them
+-- what is told of all lines is what the form says of them
 pub or_left : (a b : Bool) → (a || b) ≡ false → a ≡ false
 or_left true b e = e
 or_left false b e = refl
@@ -834,18 +823,6 @@ pub timing_all : (lines : List Entry) → timing_after [] None lines ≡ first_t
 timing_all [] = refl
 timing_all (line ∷ lines) = refl
 
--- the first cause is the same, however the causes are grouped
-pub grouped : (a b c d e f g : Option BlifFault) → first_of (first_of (a ∷ first_of (b ∷ c ∷ []) ∷ []) ∷ first_of (d ∷ e ∷ []) ∷ first_of (f ∷ g ∷ []) ∷ []) ≡ first_of (first_of (a ∷ b ∷ c ∷ d ∷ e ∷ []) ∷ f ∷ g ∷ [])
-unfolding first_of
-grouped (Some x) b c d e f g = refl
-grouped None (Some x) c d e f g = refl
-grouped None None (Some x) d e f g = refl
-grouped None None None (Some x) e f g = refl
-grouped None None None None (Some x) f g = refl
-grouped None None None None None (Some x) g = refl
-grouped None None None None None None (Some x) = refl
-grouped None None None None None None None = refl
-
 -- a line without a fault, and the lines after it
 pub none_or : (one other : Option BlifFault) → option_or one other ≡ None → (one ≡ None) × (other ≡ None)
 none_or None other e = (refl, e)
@@ -857,28 +834,28 @@ latch_drives [] rest is = absurd (cc)
 latch_drives (input ∷ []) rest is = absurd (cc)
 latch_drives (input ∷ output ∷ words) rest is = refl
 
--- nothing is driven exactly if the model has no table, latch or gate
-pub undriven_is : (library : Option (List TheGate)) (lines back : List Entry) → first_line_fault library back lines ≡ None → is_none (drives_in library (model_lines lines)) ≡ not (has_nodes (model_lines lines))
+-- something is driven exactly if the model has a table, a latch or a gate
+pub driven_is : (library : Option (List TheGate)) (lines back : List Entry) → first_line_fault library back lines ≡ None → not (is_none (drives_in library (model_lines lines))) ≡ has_nodes (model_lines lines)
 unfolding first_line_fault line_fault drives_in has_nodes model_lines
-undriven_is library [] back e = refl
-undriven_is library (line ∷ lines) back e =
+driven_is library [] back e = refl
+driven_is library (line ∷ lines) back e =
     by (kind_of line) refl (none_or (line_fault library back line) (first_line_fault library (line ∷ back) lines) e).0
-    (undriven_is library lines (line ∷ back) (none_or (line_fault library back line) (first_line_fault library (line ∷ back) lines) e).1)
+    (driven_is library lines (line ∷ back) (none_or (line_fault library back line) (first_line_fault library (line ∷ back) lines) e).1)
   where
     goes_on : (k : Keyword) → kind_of line ≡ k → begins_part k ≡ false
-        → is_none (driven_by library k (other_words line.words) ++ drives_in library (model_lines lines)) ≡ not (is_node_kind k || has_nodes (model_lines lines))
-        → is_none (drives_in library (model_lines (line ∷ lines))) ≡ not (has_nodes (model_lines (line ∷ lines)))
+        → not (is_none (driven_by library k (other_words line.words) ++ drives_in library (model_lines lines))) ≡ (is_node_kind k || has_nodes (model_lines lines))
+        → not (is_none (drives_in library (model_lines (line ∷ lines)))) ≡ has_nodes (model_lines (line ∷ lines))
     goes_on k is unlike h = rw (own_more line lines (ap begins_part is ∙ unlike), is) h
 
-    by : (k : Keyword) → kind_of line ≡ k → fault_as library k (told_before back) line.number (other_words line.words) line.words ≡ None → is_none (drives_in library (model_lines lines)) ≡ not (has_nodes (model_lines lines))
-        → is_none (drives_in library (model_lines (line ∷ lines))) ≡ not (has_nodes (model_lines (line ∷ lines)))
+    by : (k : Keyword) → kind_of line ≡ k → fault_as library k (told_before back) line.number (other_words line.words) line.words ≡ None → not (is_none (drives_in library (model_lines lines))) ≡ has_nodes (model_lines lines)
+        → not (is_none (drives_in library (model_lines (line ∷ lines)))) ≡ has_nodes (model_lines (line ∷ lines))
     by Model is f rec = goes_on Model is refl rec
     by Inputs is f rec = goes_on Inputs is refl rec
     by Outputs is f rec = goes_on Outputs is refl rec
     by Clock is f rec = goes_on Clock is refl rec
     by Names is f rec = goes_on Names is refl refl
-    by Latch is f rec = goes_on Latch is refl (latch_drives (other_words line.words) (drives_in library (model_lines lines)) (right_latch (part_behind back) (nodes_in back) line.number (other_words line.words) f))
-    by Gate is f rec = goes_on Gate is refl (one_gate library line.number (other_words line.words) (λ tables. is_none (outputs_of tables ++ drives_in library (model_lines lines)) ≡ false)
+    by Latch is f rec = goes_on Latch is refl (ap not (latch_drives (other_words line.words) (drives_in library (model_lines lines)) (right_latch (part_behind back) (nodes_in back) line.number (other_words line.words) f)))
+    by Gate is f rec = goes_on Gate is refl (one_gate library line.number (other_words line.words) (λ tables. not (is_none (outputs_of tables ++ drives_in library (model_lines lines))) ≡ true)
         (right_gate library (part_behind back) (nodes_in back) line.number (other_words line.words) f).cell (λ gates table g r. refl))
     by Subckt is f rec = goes_on Subckt is refl rec
     by StartKiss is f rec = goes_on StartKiss is refl rec
@@ -888,33 +865,17 @@ undriven_is library (line ∷ lines) back e =
     by Row is f rec = goes_on Row is refl rec
     by Other is f rec = absurd (cc)
 
--- what is kept of all lines as a circuit, and as the head of a machine
-pub circuit_kept : (library : Option (List TheGate)) (lines : List Entry) → read_kept_as false (kept_by library false no_lines lines) ≡ read_whole library false lines
-unfolding kept_fault listed_fault timing_fault drivers_fault tables_fault whole_fault model_names_fault circuit_of ports_in clocks_in drives_in reads_in latches_in timing_in mixed_clock gated_clock
-circuit_kept library lines = rw (inputs_all library (model_lines lines), outputs_all library (model_lines lines), timing_all (latch_lines (model_lines lines))) (
-    ap (λ (fault : Option BlifFault). unless fault (content.Circuit (circuit_of library lines))) (grouped _ _ _ _ _ _ _)
-    )
-
-pub head_kept : (library : Option (List TheGate)) (lines : List Entry) → read_kept_as true (kept_by library false no_lines lines) ≡ read_whole library true lines
-unfolding head_fault head_of ports_in
-head_kept library lines = refl
-
--- what is kept of all lines, where none has a fault
-pub whole_kept : (library : Option (List TheGate)) (lines : List Entry) → first_line_fault library [] lines ≡ None → finished_by library no_lines lines ≡ read_whole library (is_machine lines) lines
-unfolding read_kept is_machine drives_in
-whole_kept library lines e =
-    ap (λ b. read_kept_as (has_kiss lines && b && not (has_instances (model_lines lines))) (kept_by library false no_lines lines)) (undriven_is library lines [] e)
-    ∙ by (has_kiss lines && not (has_nodes (model_lines lines)) && not (has_instances (model_lines lines)))
-  where
-    by : (machine : Bool) → read_kept_as machine (kept_by library false no_lines lines) ≡ read_whole library machine lines
-    by true = head_kept library lines
-    by false = circuit_kept library lines
+-- what is told in the end of all lines, where none has a fault
+pub all_told : (library : Option (List TheGate)) (lines : List Entry) → first_line_fault library [] lines ≡ None → told_end library false no_lines lines ≡ told_by library lines
+unfolding told_by drives_in reads_in ports_in clocks_in latches_in timing_in mixed_clock
+all_told library lines e =
+    rw (inputs_all library (model_lines lines), outputs_all library (model_lines lines), timing_all (latch_lines (model_lines lines)), driven_is library lines [] e) refl
 
 -- the steps over all lines come to what the form says of them
 pub all_agree : (library : Option (List TheGate)) (lines : List Entry) → finish (take_entries library no_lines lines) ≡ read_lines library lines
 unfolding read_lines
 all_agree library lines = agree library lines [] no_lines nothing_told ∙ by (first_line_fault library [] lines) refl
   where
-    by : (fault : Option BlifFault) → first_line_fault library [] lines ≡ fault → first_fault fault (finished_by library no_lines lines) ≡ first_fault fault (read_whole library (is_machine lines) lines)
-    by None e = whole_kept library lines e
+    by : (fault : Option BlifFault) → first_line_fault library [] lines ≡ fault → first_fault fault (finished_by library no_lines lines) ≡ first_fault fault (read_told (told_by library lines))
+    by None e = ap read_told (all_told library lines e)
     by (Some fault) e = refl

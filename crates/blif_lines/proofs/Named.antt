@@ -20,8 +20,8 @@ use Rattle.genlib_format.specs.declared.gate.Gate.{Gate as TheGate}
 use Rattle.blif_gates.specs.GateLines.{signals_of}
 use Rattle.blif_lines.specs.Heads.{listed_ports_of}
 use Rattle.blif_lines.specs.Lines.{when, input_words, last_word, long_fault, one_too_many, many_inputs, is_in_model, is_behind, is_latch, latch_names, is_none, model_fault, ports_fault, clock_fault, names_fault, latch_fault, fault_as, joined}
-use Rattle.blif_lines.specs.Reader.{named_by, table_of, latch_of, latch_input, latch_output, timing_of, names_beside, gate_tables, gate_inputs, listed_where}
-use Rattle.blif_lines.specs.Steps.{with_row, row_behind, tables_with, closed, place_at, place_of, before_of, with_more, timing_with, with_line, no_lines, model_of, part_of, listed_or, Kept, kept_of, kept_inputs, kept_outputs, kept_circuit, kept_head}
+use Rattle.blif_lines.specs.Reader.{named_by, table_of, latch_of, latch_input, latch_output, timing_of, names_beside, gate_tables, gate_inputs, listed_where, circuit_of, head_of, Told}
+use Rattle.blif_lines.specs.Steps.{with_row, row_behind, tables_with, closed, place_at, place_of, before_of, with_more, timing_with, with_line, no_lines, model_of, part_of, listed_or, told_of}
 use Rattle.blif_lines.specs.declared.keyword.Keyword.{Keyword}
 use Rattle.blif_lines.specs.declared.keyword.Keyword.TheVariants.{Model, Inputs, Outputs, Clock, Names, Latch, Gate, Subckt, StartKiss, DontCare, End, Skipped, Row, Other}
 use Rattle.blif_lines.specs.declared.part.Part.{Part}
@@ -320,10 +320,10 @@ pub part_names : (P : List ℕ → Type 0) (had : Bool) (tables : List Table) �
 part_names P true tables a = a
 part_names P false tables a = tt
 
-pub all_named : (P : List ℕ → Type 0) (draft : Draft) → Named P draft → AllByRecursion P (all_names (kept_circuit (kept_of draft)))
+pub all_named : (P : List ℕ → Type 0) (draft : Draft) → Named P draft → AllByRecursion P (all_names (circuit_of (told_of draft)))
 unfolding all_names
 all_named P draft n =
-    let k : Kept = kept_of draft in
+    let k : Told = told_of draft in
     let outs : List (List ℕ) = map (λ (latch : TheLatch). latch.output) draft.latches in
     let ins : List (List ℕ) = map (λ (latch : TheLatch). latch.input) draft.latches in
     let control : List (List ℕ) = control_of draft.timing in
@@ -331,8 +331,8 @@ all_named P draft n =
     let part : List (List ℕ) = names_of k.dont_care in
     let ts : List Table = tables_with draft.tables draft.reading in (
       n.name,
-      all_append P (kept_inputs k) (kept_outputs k ++ (draft.clocks ++ (control ++ (outs ++ (ins ++ (own ++ part)))))) (port_names P draft.lists_inputs draft.inputs draft.drives draft.inner n.inputs n.inner)
-          (all_append P (kept_outputs k) (draft.clocks ++ (control ++ (outs ++ (ins ++ (own ++ part))))) (port_names P draft.lists_outputs draft.outputs draft.reads draft.drives n.outputs n.drives)
+      all_append P k.inputs (k.outputs ++ (draft.clocks ++ (control ++ (outs ++ (ins ++ (own ++ part)))))) (port_names P draft.lists_inputs draft.inputs draft.drives draft.inner n.inputs n.inner)
+          (all_append P k.outputs (draft.clocks ++ (control ++ (outs ++ (ins ++ (own ++ part))))) (port_names P draft.lists_outputs draft.outputs draft.reads draft.drives n.outputs n.drives)
           (all_append P draft.clocks (control ++ (outs ++ (ins ++ (own ++ part)))) n.clocks
           (all_append P control (outs ++ (ins ++ (own ++ part))) n.timing
           (all_append P outs (ins ++ (own ++ part)) (latch_outputs_have P draft.latches n.latches)
@@ -345,7 +345,7 @@ pub listed_have : (P : List ℕ → Type 0) (listed : Bool) (names : List (List 
 listed_have P true names a = a
 listed_have P false names a = tt
 
-pub head_named : (P : List ℕ → Type 0) (draft : Draft) → Named P draft → AllByRecursion P ((kept_head (kept_of draft)).name ∷ listed_ports_of (kept_head (kept_of draft)))
+pub head_named : (P : List ℕ → Type 0) (draft : Draft) → Named P draft → AllByRecursion P ((head_of (told_of draft)).name ∷ listed_ports_of (head_of (told_of draft)))
 head_named P draft n = (
   n.name,
   all_append P (unwrap_or (listed_where draft.lists_inputs draft.inputs) []) (unwrap_or (listed_where draft.lists_outputs draft.outputs) [])

@@ -18,8 +18,8 @@ use Rattle.genlib_format.specs.declared.gate.Gate.{Gate as TheGate}
 use Rattle.blif_gates.specs.GateLines.{read_gate}
 use Rattle.blif_lines.specs.Lines.{when, input_words, long_fault, one_too_many, many_inputs, is_in_model, is_behind, is_init, is_latch_kind, is_latch, latch_names, is_none, is_row_of, output_character, has_mark, table_row_fault, fault_under, row_fault, names_fault, latch_fault, fault_as, joined}
 use Rattle.blif_lines.specs.Libraries.{IsSoundLibrary}
-use Rattle.blif_lines.specs.Reader.{row_of, table_of, latch_of, init_of, gate_tables}
-use Rattle.blif_lines.specs.Steps.{width_of, known_mark, growing_of, before_of, with_row, row_behind, tables_with, closed, place_of, with_line, no_lines, model_of, part_of, kept_of, kept_circuit}
+use Rattle.blif_lines.specs.Reader.{row_of, table_of, latch_of, init_of, gate_tables, circuit_of}
+use Rattle.blif_lines.specs.Steps.{width_of, known_mark, growing_of, before_of, with_row, row_behind, tables_with, closed, place_of, with_line, no_lines, model_of, part_of, told_of}
 use Rattle.blif_lines.specs.declared.keyword.Keyword.{Keyword}
 use Rattle.blif_lines.specs.declared.keyword.Keyword.TheVariants.{Model, Inputs, Outputs, Clock, Names, Latch, Gate, Subckt, StartKiss, DontCare, End, Skipped, Row, Other}
 use Rattle.blif_lines.specs.declared.part.Part.{Part}
@@ -293,27 +293,27 @@ pub small_written : (table : Table) → IsGoodTable table → IsSmallTable table
 small_written table g = record { rows = g.rows; inputs = g.inputs; widths = rows_short (length table.inputs) table.rows g.inputs g.shaped.0 }
 
 -- the tables of the model and of the part
-pub model_tables_are : (P : Table → Type 0) (draft : Draft) → IsSmallDraft P draft → AllByRecursion P (kept_of draft).tables
+pub model_tables_are : (P : Table → Type 0) (draft : Draft) → IsSmallDraft P draft → AllByRecursion P (told_of draft).tables
 model_tables_are P draft s = by draft.has_part
   where
     by : (had : Bool) → AllByRecursion P (model_of had draft.model_tables (tables_with draft.tables draft.reading))
     by true = s.model
     by false = s.tables
 
-pub part_tables_are : (P : Table → Type 0) (draft : Draft) → IsSmallDraft P draft → AllByRecursion P (kept_of draft).dont_care
+pub part_tables_are : (P : Table → Type 0) (draft : Draft) → IsSmallDraft P draft → AllByRecursion P (told_of draft).dont_care
 part_tables_are P draft s = by draft.has_part
   where
     by : (had : Bool) → AllByRecursion P (part_of had (tables_with draft.tables draft.reading))
     by true = s.tables
     by false = tt
 
-pub small_kept_all : (draft : Draft) → IsSmallDraft IsGoodTable draft → IsWithinLimits (kept_circuit (kept_of draft))
+pub small_kept_all : (draft : Draft) → IsSmallDraft IsGoodTable draft → IsWithinLimits (circuit_of (told_of draft))
 small_kept_all draft s = record {
   nodes = let few : draft.nodes ≤ MAX_NODES = s.few in
-      let same : length (map folded (kept_of draft).tables) ≡ length (kept_of draft).tables = length-map (kept_of draft).tables folded in
-      let all : length (kept_of draft).tables + length draft.latches + length (kept_of draft).dont_care ≡ draft.nodes = by draft.has_part refl in omega arith;
-  tables = all_map IsGoodTable IsSmallTable folded (kept_of draft).tables small_folded (model_tables_are IsGoodTable draft s);
-  dont_care = all_kept IsGoodTable IsSmallTable (kept_of draft).dont_care small_written (part_tables_are IsGoodTable draft s);
+      let same : length (map folded (told_of draft).tables) ≡ length (told_of draft).tables = length-map (told_of draft).tables folded in
+      let all : length (told_of draft).tables + length draft.latches + length (told_of draft).dont_care ≡ draft.nodes = by draft.has_part refl in omega arith;
+  tables = all_map IsGoodTable IsSmallTable folded (told_of draft).tables small_folded (model_tables_are IsGoodTable draft s);
+  dont_care = all_kept IsGoodTable IsSmallTable (told_of draft).dont_care small_written (part_tables_are IsGoodTable draft s);
 }
   where
     by : (had : Bool) → draft.has_part ≡ had → length (model_of had draft.model_tables (tables_with draft.tables draft.reading)) + length draft.latches + length (part_of had (tables_with draft.tables draft.reading)) ≡ draft.nodes

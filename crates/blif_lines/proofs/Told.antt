@@ -21,8 +21,8 @@ use Rattle.circuit_tables.specs.Folding.{folded}
 use Rattle.genlib_format.specs.declared.gate.Gate.{Gate as TheGate}
 use Rattle.blif_lines.specs.Heads.{listed_ports_of}
 use Rattle.blif_lines.specs.Lines.{first_of, is_latch, joined, fault_as}
-use Rattle.blif_lines.specs.Reader.{table_of, latch_of, latch_input, latch_output, timing_of, names_beside, gate_tables, gate_inputs, listed_where}
-use Rattle.blif_lines.specs.Steps.{with_row, row_behind, tables_with, closed, place_of, before_of, with_more, timing_with, with_line, no_lines, model_of, listed_or, Kept, kept_of, kept_inputs, kept_outputs, kept_leaves, timing_fault, drivers_fault, tables_fault, listed_fault, kept_fault, kept_circuit, kept_head_fault, kept_head, HasApartTables}
+use Rattle.blif_lines.specs.Reader.{table_of, latch_of, latch_input, latch_output, timing_of, names_beside, gate_tables, gate_inputs, listed_where, circuit_of, whole_fault, head_of, head_fault, timing_fault, drivers_fault, tables_fault, listed_fault, leaves_of, Told}
+use Rattle.blif_lines.specs.Steps.{with_row, row_behind, tables_with, closed, place_of, before_of, with_more, timing_with, with_line, no_lines, model_of, listed_or, told_of, HasApartTables}
 use Rattle.blif_lines.specs.declared.keyword.Keyword.{Keyword}
 use Rattle.blif_lines.specs.declared.keyword.Keyword.TheVariants.{Model, Inputs, Outputs, Clock, Names, Latch, Gate, Subckt, StartKiss, DontCare, End, Skipped, Row, Other}
 use Rattle.blif_lines.specs.declared.fault.BlifFault.{BlifFault}
@@ -295,7 +295,7 @@ outputs_listed draft t =
     (λ name h. there draft.ports name (let some : 0 < times draft.outputs name = some_times draft.outputs name h in let e : times draft.ports name ≡ times draft.inputs name + times draft.outputs name = t.ports name in omega arith))
 
 -- ports are different: listed ones by the check, found ones as they are found once
-pub kept_inputs_once : (draft : Draft) → IsToldDraft draft → first_listed_twice draft.inputs draft.outputs draft.ports ≡ None → all_different (kept_inputs (kept_of draft)) ≡ true
+pub kept_inputs_once : (draft : Draft) → IsToldDraft draft → first_listed_twice draft.inputs draft.outputs draft.ports ≡ None → all_different (told_of draft).inputs ≡ true
 unfolding names_beside
 kept_inputs_once draft t l = by draft.lists_inputs
   where
@@ -303,7 +303,7 @@ kept_inputs_once draft t l = by draft.lists_inputs
     by true = inputs_from_listed draft.inputs draft.outputs draft.ports (inputs_listed draft t) l
     by false = different-each_once (filter (λ name. not (has draft.drives name)) draft.inner)
 
-pub kept_outputs_once : (draft : Draft) → IsToldDraft draft → first_listed_twice draft.inputs draft.outputs draft.ports ≡ None → all_different (kept_outputs (kept_of draft)) ≡ true
+pub kept_outputs_once : (draft : Draft) → IsToldDraft draft → first_listed_twice draft.inputs draft.outputs draft.ports ≡ None → all_different (told_of draft).outputs ≡ true
 unfolding names_beside
 kept_outputs_once draft t l = by draft.lists_outputs
   where
@@ -312,32 +312,32 @@ kept_outputs_once draft t l = by draft.lists_outputs
     by false = different-each_once (filter (λ name. not (has draft.reads name)) draft.drives)
 
 -- one driver for each signal
-pub all_apart : (draft : Draft) → IsToldDraft draft → first_listed_twice draft.inputs draft.outputs draft.ports ≡ None → first_again (kept_inputs (kept_of draft)) draft.drives ≡ None → all_different (kept_inputs (kept_of draft) ++ (states_of draft.latches ++ outputs_of (own_tables draft))) ≡ true
-all_apart draft t l a = once_different (kept_inputs (kept_of draft) ++ (states_of draft.latches ++ outputs_of (own_tables draft))) once
+pub all_apart : (draft : Draft) → IsToldDraft draft → first_listed_twice draft.inputs draft.outputs draft.ports ≡ None → first_again (told_of draft).inputs draft.drives ≡ None → all_different ((told_of draft).inputs ++ (states_of draft.latches ++ outputs_of (own_tables draft))) ≡ true
+all_apart draft t l a = once_different ((told_of draft).inputs ++ (states_of draft.latches ++ outputs_of (own_tables draft))) once
   where
-    different : all_different (kept_inputs (kept_of draft) ++ draft.drives) ≡ true
-    different = different_from_again (kept_inputs (kept_of draft)) draft.drives (kept_inputs_once draft t l) a
+    different : all_different ((told_of draft).inputs ++ draft.drives) ≡ true
+    different = different_from_again (told_of draft).inputs draft.drives (kept_inputs_once draft t l) a
 
-    once : (name : List ℕ) → times (kept_inputs (kept_of draft) ++ (states_of draft.latches ++ outputs_of (own_tables draft))) name ≤ 1
+    once : (name : List ℕ) → times ((told_of draft).inputs ++ (states_of draft.latches ++ outputs_of (own_tables draft))) name ≤ 1
     once name =
         let d : times draft.drives name ≡ times (states_of draft.latches) name + times (outputs_of (own_tables draft)) name = t.drives name in
-        let one : times (kept_inputs (kept_of draft) ++ draft.drives) name ≤ 1 = different_once (kept_inputs (kept_of draft) ++ draft.drives) name different in
-        let left : times (kept_inputs (kept_of draft) ++ draft.drives) name ≡ times (kept_inputs (kept_of draft)) name + times draft.drives name = times_both name (kept_inputs (kept_of draft)) draft.drives in
-        let right : times (kept_inputs (kept_of draft) ++ (states_of draft.latches ++ outputs_of (own_tables draft))) name ≡ times (kept_inputs (kept_of draft)) name + times (states_of draft.latches ++ outputs_of (own_tables draft)) name =
-        times_both name (kept_inputs (kept_of draft)) (states_of draft.latches ++ outputs_of (own_tables draft)) in
+        let one : times ((told_of draft).inputs ++ draft.drives) name ≤ 1 = different_once ((told_of draft).inputs ++ draft.drives) name different in
+        let left : times ((told_of draft).inputs ++ draft.drives) name ≡ times (told_of draft).inputs name + times draft.drives name = times_both name (told_of draft).inputs draft.drives in
+        let right : times ((told_of draft).inputs ++ (states_of draft.latches ++ outputs_of (own_tables draft))) name ≡ times (told_of draft).inputs name + times (states_of draft.latches ++ outputs_of (own_tables draft)) name =
+        times_both name (told_of draft).inputs (states_of draft.latches ++ outputs_of (own_tables draft)) in
         let inner : times (states_of draft.latches ++ outputs_of (own_tables draft)) name ≡ times (states_of draft.latches) name + times (outputs_of (own_tables draft)) name =
         times_both name (states_of draft.latches) (outputs_of (own_tables draft)) in
         omega arith
 
-pub tables_apart : (draft : Draft) → IsToldDraft draft → HasApartTables (kept_of draft)
+pub tables_apart : (draft : Draft) → IsToldDraft draft → HasApartTables (told_of draft)
 tables_apart draft t l a = once_different (outputs_of (own_tables draft)) once
   where
     once : (name : List ℕ) → times (outputs_of (own_tables draft)) name ≤ 1
     once name =
-        let one : times (kept_inputs (kept_of draft) ++ (states_of draft.latches ++ outputs_of (own_tables draft))) name ≤ 1 =
-        different_once (kept_inputs (kept_of draft) ++ (states_of draft.latches ++ outputs_of (own_tables draft))) name (all_apart draft t l a) in
-        let right : times (kept_inputs (kept_of draft) ++ (states_of draft.latches ++ outputs_of (own_tables draft))) name ≡ times (kept_inputs (kept_of draft)) name + times (states_of draft.latches ++ outputs_of (own_tables draft)) name =
-        times_both name (kept_inputs (kept_of draft)) (states_of draft.latches ++ outputs_of (own_tables draft)) in
+        let one : times ((told_of draft).inputs ++ (states_of draft.latches ++ outputs_of (own_tables draft))) name ≤ 1 =
+        different_once ((told_of draft).inputs ++ (states_of draft.latches ++ outputs_of (own_tables draft))) name (all_apart draft t l a) in
+        let right : times ((told_of draft).inputs ++ (states_of draft.latches ++ outputs_of (own_tables draft))) name ≡ times (told_of draft).inputs name + times (states_of draft.latches ++ outputs_of (own_tables draft)) name =
+        times_both name (told_of draft).inputs (states_of draft.latches ++ outputs_of (own_tables draft)) in
         let inner : times (states_of draft.latches ++ outputs_of (own_tables draft)) name ≡ times (states_of draft.latches) name + times (outputs_of (own_tables draft)) name =
         times_both name (states_of draft.latches) (outputs_of (own_tables draft)) in
         omega arith
@@ -360,19 +360,19 @@ folded_all_reads (table ∷ tables) name h =
     (λ e. folded_reads table name e) (λ e. folded_all_reads tables name e)
 
 -- each signal that is read has a driver
-pub is_given : (draft : Draft) → IsToldDraft draft → (name : List ℕ) → has (kept_inputs (kept_of draft) ++ draft.drives) name ≡ true → has (given (kept_circuit (kept_of draft))) name ≡ true
+pub is_given : (draft : Draft) → IsToldDraft draft → (name : List ℕ) → has ((told_of draft).inputs ++ draft.drives) name ≡ true → has (given (circuit_of (told_of draft))) name ≡ true
 unfolding given
 is_given draft t name h =
-    ap (λ (outputs : List (List ℕ)). has (kept_inputs (kept_of draft) ++ (states_of draft.latches ++ outputs)) name) (folded_outputs (own_tables draft))
-    ∙ there (kept_inputs (kept_of draft) ++ (states_of draft.latches ++ outputs_of (own_tables draft))) name some
+    ap (λ (outputs : List (List ℕ)). has ((told_of draft).inputs ++ (states_of draft.latches ++ outputs)) name) (folded_outputs (own_tables draft))
+    ∙ there ((told_of draft).inputs ++ (states_of draft.latches ++ outputs_of (own_tables draft))) name some
   where
-    some : 0 < times (kept_inputs (kept_of draft) ++ (states_of draft.latches ++ outputs_of (own_tables draft))) name
+    some : 0 < times ((told_of draft).inputs ++ (states_of draft.latches ++ outputs_of (own_tables draft))) name
     some =
         let d : times draft.drives name ≡ times (states_of draft.latches) name + times (outputs_of (own_tables draft)) name = t.drives name in
-        let one : 0 < times (kept_inputs (kept_of draft) ++ draft.drives) name = some_times (kept_inputs (kept_of draft) ++ draft.drives) name h in
-        let left : times (kept_inputs (kept_of draft) ++ draft.drives) name ≡ times (kept_inputs (kept_of draft)) name + times draft.drives name = times_both name (kept_inputs (kept_of draft)) draft.drives in
-        let right : times (kept_inputs (kept_of draft) ++ (states_of draft.latches ++ outputs_of (own_tables draft))) name ≡ times (kept_inputs (kept_of draft)) name + times (states_of draft.latches ++ outputs_of (own_tables draft)) name =
-        times_both name (kept_inputs (kept_of draft)) (states_of draft.latches ++ outputs_of (own_tables draft)) in
+        let one : 0 < times ((told_of draft).inputs ++ draft.drives) name = some_times ((told_of draft).inputs ++ draft.drives) name h in
+        let left : times ((told_of draft).inputs ++ draft.drives) name ≡ times (told_of draft).inputs name + times draft.drives name = times_both name (told_of draft).inputs draft.drives in
+        let right : times ((told_of draft).inputs ++ (states_of draft.latches ++ outputs_of (own_tables draft))) name ≡ times (told_of draft).inputs name + times (states_of draft.latches ++ outputs_of (own_tables draft)) name =
+        times_both name (told_of draft).inputs (states_of draft.latches ++ outputs_of (own_tables draft)) in
         let inner : times (states_of draft.latches ++ outputs_of (own_tables draft)) name ≡ times (states_of draft.latches) name + times (outputs_of (own_tables draft)) name =
         times_both name (states_of draft.latches) (outputs_of (own_tables draft)) in
         omega arith
@@ -400,55 +400,55 @@ found_among others names name h = filtered names (sym (has-each_once (filter (λ
         by false same rec e = or_true false (has (filter (λ one. not (has others one)) some) name) (bytes_eq name one) (has some name) e (λ f. absurd (cc)) rec
 
 -- an output is read where it is listed, else it is driven
-pub out_known : (draft : Draft) → IsToldDraft draft → (name : List ℕ) → has (kept_outputs (kept_of draft)) name ≡ true → ((one : List ℕ) → has draft.reads one ≡ true → has (kept_inputs (kept_of draft) ++ draft.drives) one ≡ true) → has (kept_inputs (kept_of draft) ++ draft.drives) name ≡ true
+pub out_known : (draft : Draft) → IsToldDraft draft → (name : List ℕ) → has (told_of draft).outputs name ≡ true → ((one : List ℕ) → has draft.reads one ≡ true → has ((told_of draft).inputs ++ draft.drives) one ≡ true) → has ((told_of draft).inputs ++ draft.drives) name ≡ true
 out_known draft t name h known = by draft.lists_outputs h
   where
-    by : (listed : Bool) → has (listed_or listed draft.outputs (names_beside draft.reads draft.drives)) name ≡ true → has (kept_inputs (kept_of draft) ++ draft.drives) name ≡ true
+    by : (listed : Bool) → has (listed_or listed draft.outputs (names_beside draft.reads draft.drives)) name ≡ true → has ((told_of draft).inputs ++ draft.drives) name ≡ true
     by true e = known name (is_read draft t name (list_any-append (bytes_eq name) (table_inputs (own_tables draft)) (inputs_of draft.latches ++ draft.outputs)
         ∙ or_true false true (has (table_inputs (own_tables draft)) name) (has (inputs_of draft.latches ++ draft.outputs) name) refl (λ f. absurd (cc))
         (λ f. list_any-append (bytes_eq name) (inputs_of draft.latches) draft.outputs ∙ or_true false true (has (inputs_of draft.latches) name) (has draft.outputs name) refl (λ g. absurd (cc)) (λ g. e))))
     by false e =
-        list_any-append (bytes_eq name) (kept_inputs (kept_of draft)) draft.drives
-        ∙ or_true false true (has (kept_inputs (kept_of draft)) name) (has draft.drives name) refl (λ f. absurd (cc)) (λ f. found_among draft.reads draft.drives name e)
+        list_any-append (bytes_eq name) (told_of draft).inputs draft.drives
+        ∙ or_true false true (has (told_of draft).inputs name) (has draft.drives name) refl (λ f. absurd (cc)) (λ f. found_among draft.reads draft.drives name e)
 
 pub split_or : (a b : Bool) {C : Type 0} → (a || b) ≡ true → (a ≡ true → C) → (b ≡ true → C) → C
 split_or true b e f g = f refl
 split_or false b e f g = g e
 
-pub all_driven : (draft : Draft) → IsToldDraft draft → first_missing (kept_inputs (kept_of draft) ++ draft.drives) draft.reads ≡ None → AllByRecursion (λ name. has (given (kept_circuit (kept_of draft))) name ≡ true) (taken (kept_circuit (kept_of draft)))
+pub all_driven : (draft : Draft) → IsToldDraft draft → first_missing ((told_of draft).inputs ++ draft.drives) draft.reads ≡ None → AllByRecursion (λ name. has (given (circuit_of (told_of draft))) name ≡ true) (taken (circuit_of (told_of draft)))
 unfolding taken
 all_driven draft t m =
-    all_of_has (λ name. has (given (kept_circuit (kept_of draft))) name ≡ true) (table_inputs (map folded (own_tables draft)) ++ (inputs_of draft.latches ++ kept_outputs (kept_of draft)))
+    all_of_has (λ name. has (given (circuit_of (told_of draft))) name ≡ true) (table_inputs (map folded (own_tables draft)) ++ (inputs_of draft.latches ++ (told_of draft).outputs))
     (λ name h. is_given draft t name (which name h))
   where
-    known : (one : List ℕ) → has draft.reads one ≡ true → has (kept_inputs (kept_of draft) ++ draft.drives) one ≡ true
-    known one h = all_among (λ n. has (kept_inputs (kept_of draft) ++ draft.drives) n ≡ true) draft.reads one (known_from_missing (kept_inputs (kept_of draft) ++ draft.drives) draft.reads m) h
+    known : (one : List ℕ) → has draft.reads one ≡ true → has ((told_of draft).inputs ++ draft.drives) one ≡ true
+    known one h = all_among (λ n. has ((told_of draft).inputs ++ draft.drives) n ≡ true) draft.reads one (known_from_missing ((told_of draft).inputs ++ draft.drives) draft.reads m) h
 
-    within : (name : List ℕ) → has (table_inputs (own_tables draft)) name ≡ true → has (kept_inputs (kept_of draft) ++ draft.drives) name ≡ true
+    within : (name : List ℕ) → has (table_inputs (own_tables draft)) name ≡ true → has ((told_of draft).inputs ++ draft.drives) name ≡ true
     within name h = known name (is_read draft t name (list_any-append (bytes_eq name) (table_inputs (own_tables draft)) (inputs_of draft.latches ++ draft.outputs) ∙ ap (λ b. b || has (inputs_of draft.latches ++ draft.outputs) name) h))
 
-    latched : (name : List ℕ) → has (inputs_of draft.latches) name ≡ true → has (kept_inputs (kept_of draft) ++ draft.drives) name ≡ true
+    latched : (name : List ℕ) → has (inputs_of draft.latches) name ≡ true → has ((told_of draft).inputs ++ draft.drives) name ≡ true
     latched name h =
         known name (is_read draft t name (list_any-append (bytes_eq name) (table_inputs (own_tables draft)) (inputs_of draft.latches ++ draft.outputs)
         ∙ or_true false true (has (table_inputs (own_tables draft)) name) (has (inputs_of draft.latches ++ draft.outputs) name) refl (λ f. absurd (cc))
         (λ f. list_any-append (bytes_eq name) (inputs_of draft.latches) draft.outputs ∙ ap (λ b. b || has draft.outputs name) h)))
 
-    which : (name : List ℕ) → has (table_inputs (map folded (own_tables draft)) ++ (inputs_of draft.latches ++ kept_outputs (kept_of draft))) name ≡ true → has (kept_inputs (kept_of draft) ++ draft.drives) name ≡ true
+    which : (name : List ℕ) → has (table_inputs (map folded (own_tables draft)) ++ (inputs_of draft.latches ++ (told_of draft).outputs)) name ≡ true → has ((told_of draft).inputs ++ draft.drives) name ≡ true
     which name h =
-        split_or (has (table_inputs (map folded (own_tables draft))) name) (has (inputs_of draft.latches ++ kept_outputs (kept_of draft)) name)
-        (sym (list_any-append (bytes_eq name) (table_inputs (map folded (own_tables draft))) (inputs_of draft.latches ++ kept_outputs (kept_of draft))) ∙ h)
+        split_or (has (table_inputs (map folded (own_tables draft))) name) (has (inputs_of draft.latches ++ (told_of draft).outputs) name)
+        (sym (list_any-append (bytes_eq name) (table_inputs (map folded (own_tables draft))) (inputs_of draft.latches ++ (told_of draft).outputs)) ∙ h)
         (λ e. within name (folded_all_reads (own_tables draft) name e))
-        (λ e. split_or (has (inputs_of draft.latches) name) (has (kept_outputs (kept_of draft)) name) (sym (list_any-append (bytes_eq name) (inputs_of draft.latches) (kept_outputs (kept_of draft))) ∙ e)
+        (λ e. split_or (has (inputs_of draft.latches) name) (has (told_of draft).outputs name) (sym (list_any-append (bytes_eq name) (inputs_of draft.latches) (told_of draft).outputs) ∙ e)
         (latched name) (λ g. out_known draft t name g known))
 
--- what holds where nothing is wrong with what is kept
-pub record IsRight (kept : Kept) : Type 0 where
-  pub once : first_listed_twice kept.inputs kept.outputs kept.ports ≡ None
-  pub ungated : find (has kept.drives) (control_of kept.timing) ≡ None
-  pub apart : first_again (kept_inputs kept) kept.drives ≡ None
-  pub known : first_missing (kept_inputs kept ++ kept.drives) kept.reads ≡ None
-  pub part : first_bad_part_name (kept_leaves kept) kept.dont_care ≡ None
-  pub acyclic : first_on_cycle kept.tables ≡ None
+-- what holds where nothing is wrong with the whole
+pub record IsRight (told : Told) : Type 0 where
+  pub once : first_listed_twice told.listed_inputs told.listed_outputs told.ports ≡ None
+  pub ungated : find (has told.drives) (control_of told.timing) ≡ None
+  pub apart : first_again told.inputs told.drives ≡ None
+  pub known : first_missing (told.inputs ++ told.drives) told.reads ≡ None
+  pub part : first_bad_part_name (leaves_of told) told.dont_care ≡ None
+  pub acyclic : first_on_cycle told.tables ≡ None
 
 pub all_right : (a b c d e f g : Option BlifFault) → first_of (first_of (a ∷ first_of (b ∷ c ∷ []) ∷ []) ∷ first_of (d ∷ e ∷ []) ∷ first_of (f ∷ g ∷ []) ∷ []) ≡ None
     → (a ≡ None) × (c ≡ None) × (d ≡ None) × (e ≡ None) × (f ≡ None) × (g ≡ None)
@@ -462,20 +462,20 @@ all_right None None None None (Some x) f g h = absurd (cc)
 all_right None None None None None (Some x) g h = absurd (cc)
 all_right None None None None None None (Some x) h = absurd (cc)
 
-pub right_kept : (kept : Kept) → kept_fault kept ≡ None → IsRight kept
-unfolding kept_fault listed_fault timing_fault drivers_fault tables_fault
-right_kept kept h =
-    let r = all_right (option_map (λ name. NameTwice name) (first_listed_twice kept.inputs kept.outputs kept.ports)) (option_map (λ number. MixedClock number) kept.mixed)
-    (option_map (λ name. GatedClock name) (find (has kept.drives) (control_of kept.timing))) (option_map (λ name. TwoDrivers name) (first_again (kept_inputs kept) kept.drives))
-    (option_map (λ name. Undriven name) (first_missing (kept_inputs kept ++ kept.drives) kept.reads)) (option_map (λ name. BadExdc name) (first_bad_part_name (kept_leaves kept) kept.dont_care))
-    (option_map (λ name. Cycle name) (first_on_cycle kept.tables)) h in
+pub right_kept : (told : Told) → whole_fault told ≡ None → IsRight told
+unfolding whole_fault listed_fault timing_fault drivers_fault tables_fault
+right_kept told h =
+    let r = all_right (option_map (λ name. NameTwice name) (first_listed_twice told.listed_inputs told.listed_outputs told.ports)) (option_map (λ number. MixedClock number) told.mixed)
+    (option_map (λ name. GatedClock name) (find (has told.drives) (control_of told.timing))) (option_map (λ name. TwoDrivers name) (first_again told.inputs told.drives))
+    (option_map (λ name. Undriven name) (first_missing (told.inputs ++ told.drives) told.reads)) (option_map (λ name. BadExdc name) (first_bad_part_name (leaves_of told) told.dont_care))
+    (option_map (λ name. Cycle name) (first_on_cycle told.tables)) h in
     record {
-      once = not_mapped (λ name. NameTwice name) (first_listed_twice kept.inputs kept.outputs kept.ports) r.0;
-      ungated = not_mapped (λ name. GatedClock name) (find (has kept.drives) (control_of kept.timing)) r.1;
-      apart = not_mapped (λ name. TwoDrivers name) (first_again (kept_inputs kept) kept.drives) r.2;
-      known = not_mapped (λ name. Undriven name) (first_missing (kept_inputs kept ++ kept.drives) kept.reads) r.3;
-      part = not_mapped (λ name. BadExdc name) (first_bad_part_name (kept_leaves kept) kept.dont_care) r.4;
-      acyclic = not_mapped (λ name. Cycle name) (first_on_cycle kept.tables) r.5;
+      once = not_mapped (λ name. NameTwice name) (first_listed_twice told.listed_inputs told.listed_outputs told.ports) r.0;
+      ungated = not_mapped (λ name. GatedClock name) (find (has told.drives) (control_of told.timing)) r.1;
+      apart = not_mapped (λ name. TwoDrivers name) (first_again told.inputs told.drives) r.2;
+      known = not_mapped (λ name. Undriven name) (first_missing (told.inputs ++ told.drives) told.reads) r.3;
+      part = not_mapped (λ name. BadExdc name) (first_bad_part_name (leaves_of told) told.dont_care) r.4;
+      acyclic = not_mapped (λ name. Cycle name) (first_on_cycle told.tables) r.5;
     }
 
 -- a control that is found among no driven signals is driven by nothing
@@ -488,17 +488,17 @@ not_driven draft t name h =
     let both : times (states_of draft.latches ++ outputs_of (own_tables draft)) name ≡ times (states_of draft.latches) name + times (outputs_of (own_tables draft)) name = times_both name (states_of draft.latches) (outputs_of (own_tables draft)) in
     omega arith)
 
-pub sound_kept : (draft : Draft) → Named (λ name. is_word name ≡ true) draft → IsSmallDraft IsShaped draft → IsToldDraft draft → kept_fault (kept_of draft) ≡ None → IsSound (kept_circuit (kept_of draft))
+pub sound_kept : (draft : Draft) → Named (λ name. is_word name ≡ true) draft → IsSmallDraft IsShaped draft → IsToldDraft draft → whole_fault (told_of draft) ≡ None → IsSound (circuit_of (told_of draft))
 unfolding given
 sound_kept draft n s t e =
-    let r : IsRight (kept_of draft) = right_kept (kept_of draft) e in
-    let part = part_sound (kept_leaves (kept_of draft)) (kept_of draft).dont_care r.part in
+    let r : IsRight (told_of draft) = right_kept (told_of draft) e in
+    let part = part_sound (leaves_of (told_of draft)) (told_of draft).dont_care r.part in
     record {
       words = all_named (λ name. is_word name ≡ true) draft n;
       inputs_once = kept_inputs_once draft t r.once;
       outputs_once = kept_outputs_once draft t r.once;
       one_driver =
-          ap (λ (outputs : List (List ℕ)). all_different (kept_inputs (kept_of draft) ++ (states_of draft.latches ++ outputs))) (folded_outputs (own_tables draft))
+          ap (λ (outputs : List (List ℕ)). all_different ((told_of draft).inputs ++ (states_of draft.latches ++ outputs))) (folded_outputs (own_tables draft))
           ∙ all_apart draft t r.once r.apart;
       driven = all_driven draft t r.known;
       inits = s.inits;
@@ -519,17 +519,17 @@ pub listed_times : (listed : Bool) (names : List (List ℕ)) (name : List ℕ) �
 listed_times true names name = omega arith
 listed_times false names name = omega arith
 
-pub head_ports_once : (draft : Draft) → IsToldDraft draft → kept_head_fault (kept_of draft) ≡ None → all_different (listed_ports_of (kept_head (kept_of draft))) ≡ true
-head_ports_once draft t e = once_different (listed_ports_of (kept_head (kept_of draft))) once
+pub head_ports_once : (draft : Draft) → IsToldDraft draft → head_fault (told_of draft) ≡ None → all_different (listed_ports_of (head_of (told_of draft))) ≡ true
+head_ports_once draft t e = once_different (listed_ports_of (head_of (told_of draft))) once
   where
     all : all_different draft.ports ≡ true
     all = inputs_from_listed draft.ports [] draft.ports (all_of_has (λ name. has draft.ports name ≡ true) draft.ports (λ name h. h)) (not_mapped (λ name. NameTwice name) (first_listed_twice draft.ports [] draft.ports) e)
 
-    once : (name : List ℕ) → times (listed_ports_of (kept_head (kept_of draft))) name ≤ 1
+    once : (name : List ℕ) → times (listed_ports_of (head_of (told_of draft))) name ≤ 1
     once name =
         let one : times draft.ports name ≤ 1 = different_once draft.ports name all in
         let sum : times draft.ports name ≡ times draft.inputs name + times draft.outputs name = t.ports name in
-        let both : times (listed_ports_of (kept_head (kept_of draft))) name ≡ times (unwrap_or (listed_where draft.lists_inputs draft.inputs) []) name + times (unwrap_or (listed_where draft.lists_outputs draft.outputs) []) name =
+        let both : times (listed_ports_of (head_of (told_of draft))) name ≡ times (unwrap_or (listed_where draft.lists_inputs draft.inputs) []) name + times (unwrap_or (listed_where draft.lists_outputs draft.outputs) []) name =
         times_both name (unwrap_or (listed_where draft.lists_inputs draft.inputs) []) (unwrap_or (listed_where draft.lists_outputs draft.outputs) []) in
         let ins : times (unwrap_or (listed_where draft.lists_inputs draft.inputs) []) name ≤ times draft.inputs name = listed_times draft.lists_inputs draft.inputs name in
         let outs : times (unwrap_or (listed_where draft.lists_outputs draft.outputs) []) name ≤ times draft.outputs name = listed_times draft.lists_outputs draft.outputs name in omega arith

@@ -16,7 +16,7 @@ use Rattle.blif_lines.specs.Heads.{IsSoundHead, HasShortHead}
 use Rattle.blif_lines.specs.Libraries.{IsSoundLibrary}
 use Rattle.blif_lines.specs.Limits.{HasShortNames}
 use Rattle.blif_lines.specs.Reader.{read_lines, Reads}
-use Rattle.blif_lines.specs.Steps.{take_entries, no_lines, kept_of, finished, finish, HasApartTables, Takes}
+use Rattle.blif_lines.specs.Steps.{take_entries, no_lines, told_of, finished, finish, HasApartTables, Takes}
 use Rattle.blif_lines.specs.declared.fault.ReadFault.{ReadFault}
 use Rattle.blif_lines.specs.declared.fault.ReadFault.TheVariants.{Fault, Memory}
 use Rattle.blif_lines.specs.declared.content.Content.{Content}
@@ -59,7 +59,7 @@ words_last library lines last a e =
     (λ line one words f s. named_kept library IsWord (kind_of line) one line.number (other_words line.words) line.words refl
     (words_mentioned library one.has_part (kind_of line) (other_words line.words) (others_have IsWord line.words words)) f s) a (named_nothing IsWord refl) e
 
-pub apart_last : (library : Option (List Gate)) (lines : List Entry) (last : Draft) → take_entries library no_lines lines ≡ Ok last → HasApartTables (kept_of last)
+pub apart_last : (library : Option (List Gate)) (lines : List Entry) (last : Draft) → take_entries library no_lines lines ≡ Ok last → HasApartTables (told_of last)
 apart_last library lines last e = tables_apart last (told_last library lines last e)
 
 -- the answer if a line has a fault, and after the last line

@@ -5,7 +5,8 @@
 -- share one clock; tables after `.exdc` are the don't-care part. A model with a KISS2 part and
 -- without a table, a latch, a gate or a `.subckt` line of its own is a machine; the lines of that
 -- part are not among these lines. A `.subckt` line says nothing more of the model here: where a
--- file has several models, the lines of an instance stand in its place.
+-- file has several models, the lines of an instance stand in its place. What is wrong with the
+-- whole, and what is read of it, is defined by what all lines tell (`Told`).
 use Rattle.std.specs.Prelude.{◌≡◌, ℕ, ◌-◌, Bool, true, false, not, ◌&&◌, ◌==◌, Option, Some, None, Result, Ok, Err, List, [], ◌∷◌, ◌++◌, map, length, take, drop, find, flat_map, take_while, bytes_eq, codes, slice_index, if◌then◌else◌}
 use Rattle.std.specs.List.{filter, list_any}
 use Rattle.std.specs.Option.{option_map, option_or}
@@ -255,10 +256,6 @@ unfoldable pub mixed_clock : List Entry → Option ℕ
 mixed_clock lines =
     option_map (λ (line : Entry). line.number) (find (λ line. not (same_timing (timing_in lines) (timing_at line))) (latch_lines lines))
 
--- the control, if a table, a latch or a gate drives it
-unfoldable pub gated_clock : Option (List TheGate) → List Entry → Option (List ℕ)
-gated_clock library lines = find (has (drives_in library lines)) (control_of (timing_in lines))
-
 -- the characters of a row
 abbrev pub row_of : ℕ → List ℕ → List Tri
 row_of width bytes = map character_of (take width bytes)
@@ -301,45 +298,6 @@ unfoldable pub model_name : List Entry → List ℕ
 model_name [] = codes "top"
 model_name (line ∷ lines) = named_by (kind_of line) (other_words line.words)
 
--- the circuit of the lines: each table of its own has each of its inputs once, those of the
--- don't-care part are as they are written
-unfoldable pub circuit_of : Option (List TheGate) → List Entry → Circuit
-circuit_of library lines = record {
-  name = model_name lines;
-  inputs = inputs_in library (model_lines lines);
-  outputs = outputs_in library (model_lines lines);
-  clocks = clocks_in (model_lines lines);
-  timing = timing_in (model_lines lines);
-  latches = latches_in (model_lines lines);
-  tables = map folded (tables_in library (model_lines lines));
-  dont_care = tables_in library (part_lines lines);
-}
-
--- what is wrong with the model itself, except for cycles: a port listed twice, a latch whose timing
--- is not that of the first, a control that is driven, a signal driven twice, one that is read and
--- not driven
-unfoldable pub model_names_fault : Option (List TheGate) → List Entry → Option BlifFault
-model_names_fault library lines = first_of
-    (option_map (λ name. NameTwice name) (first_listed_twice (of_lines listed_inputs lines) (of_lines listed_outputs lines) (ports_in lines))
-    ∷ option_map (λ number. MixedClock number) (mixed_clock lines)
-    ∷ option_map (λ name. GatedClock name) (gated_clock library lines)
-    ∷ option_map (λ name. TwoDrivers name) (first_again (inputs_in library lines) (drives_in library lines))
-    ∷ option_map (λ name. Undriven name) (first_missing (inputs_in library lines ++ drives_in library lines) (reads_in library lines))
-    ∷ [])
-
--- the leaves of the model of some lines
-abbrev pub leaves_in : Option (List TheGate) → List Entry → List (List ℕ)
-leaves_in library lines = inputs_in library lines ++ map (λ (latch : TheLatch). latch.output) (latches_in lines)
-
--- what is wrong with the whole file: with the model's names, with its don't-care part, and last a
--- table that is reached from itself
-unfoldable pub whole_fault : Option (List TheGate) → List Entry → Option BlifFault
-whole_fault library lines = first_of
-    (model_names_fault library (model_lines lines)
-    ∷ option_map (λ name. BadExdc name) (first_bad_part_name (leaves_in library (model_lines lines)) (tables_in library (part_lines lines)))
-    ∷ option_map (λ name. Cycle name) (first_on_cycle (tables_in library (model_lines lines)))
-    ∷ [])
-
 -- whether a table, a latch or a gate is among lines
 unfoldable pub has_nodes : List Entry → Bool
 has_nodes lines = list_any (λ line. is_node_kind (kind_of line)) lines
@@ -353,38 +311,141 @@ is_instance_kind kind = false
 unfoldable pub has_instances : List Entry → Bool
 has_instances lines = list_any (λ line. is_instance_kind (kind_of line)) lines
 
--- whether lines describe a machine: a KISS2 part begins among them, and the model itself has no
--- table, latch or gate and no `.subckt` line
-unfoldable pub is_machine : List Entry → Bool
-is_machine lines = has_kiss lines && not (has_nodes (model_lines lines)) && not (has_instances (model_lines lines))
+-- what the lines of a model tell of the whole: whether a KISS2 part begins among them; of the model
+-- itself, whether it has a table, a latch or a gate, and a `.subckt` line, its name, whether lines
+-- list inputs and outputs, those that they list, all listed ports in order, the inputs and the
+-- outputs, listed or found, its clocks, the signals that are driven and those that are read, the
+-- timing of its latches and the line of the first that is timed otherwise, its latches and tables;
+-- last the tables of the don't-care part
+pub record Told : Type 0 where
+  pub has_kiss : Bool
+  pub has_nodes : Bool
+  pub has_instances : Bool
+  pub name : List ℕ
+  pub lists_inputs : Bool
+  pub listed_inputs : List (List ℕ)
+  pub lists_outputs : Bool
+  pub listed_outputs : List (List ℕ)
+  pub ports : List (List ℕ)
+  pub inputs : List (List ℕ)
+  pub outputs : List (List ℕ)
+  pub clocks : List (List ℕ)
+  pub drives : List (List ℕ)
+  pub reads : List (List ℕ)
+  pub timing : Option Timing
+  pub mixed : Option ℕ
+  pub latches : List TheLatch
+  pub tables : List Table
+  pub dont_care : List Table
+
+-- what lines tell, with a library if there is one
+unfoldable pub told_by : Option (List TheGate) → List Entry → Told
+told_by library lines = record {
+  has_kiss = has_kiss lines;
+  has_nodes = has_nodes (model_lines lines);
+  has_instances = has_instances (model_lines lines);
+  name = model_name lines;
+  lists_inputs = lists_inputs (model_lines lines);
+  listed_inputs = of_lines listed_inputs (model_lines lines);
+  lists_outputs = lists_outputs (model_lines lines);
+  listed_outputs = of_lines listed_outputs (model_lines lines);
+  ports = ports_in (model_lines lines);
+  inputs = inputs_in library (model_lines lines);
+  outputs = outputs_in library (model_lines lines);
+  clocks = clocks_in (model_lines lines);
+  drives = drives_in library (model_lines lines);
+  reads = reads_in library (model_lines lines);
+  timing = timing_in (model_lines lines);
+  mixed = mixed_clock (model_lines lines);
+  latches = latches_in (model_lines lines);
+  tables = tables_in library (model_lines lines);
+  dont_care = tables_in library (part_lines lines);
+}
+
+-- the leaves: inputs and latch outputs
+abbrev pub leaves_of : Told → List (List ℕ)
+leaves_of told = told.inputs ++ map (λ (latch : TheLatch). latch.output) told.latches
+
+-- what is wrong with the latches' timing: the line of the first whose timing differs, a control
+-- that is driven
+unfoldable pub timing_fault : Option ℕ → Option Timing → List (List ℕ) → Option BlifFault
+timing_fault mixed timing drives = first_of
+    (option_map (λ number. MixedClock number) mixed ∷ option_map (λ name. GatedClock name) (find (has drives) (control_of timing)) ∷ [])
+
+-- what is wrong with what is listed: a port that is listed twice, the timing of the latches
+unfoldable pub listed_fault : Told → Option BlifFault
+listed_fault told = first_of
+    (option_map (λ name. NameTwice name) (first_listed_twice told.listed_inputs told.listed_outputs told.ports)
+    ∷ timing_fault told.mixed told.timing told.drives ∷ [])
+
+-- what is wrong with the drivers, by the inputs and the driven and read signals: a signal driven
+-- twice, one that is read and not driven
+unfoldable pub drivers_fault : List (List ℕ) → List (List ℕ) → List (List ℕ) → Option BlifFault
+drivers_fault inputs drives reads = first_of
+    (option_map (λ name. TwoDrivers name) (first_again inputs drives)
+    ∷ option_map (λ name. Undriven name) (first_missing (inputs ++ drives) reads) ∷ [])
+
+-- what is wrong with the tables, by the leaves, the don't-care part and the model's tables: a name
+-- of the part, a table that is reached from itself
+unfoldable pub tables_fault : List (List ℕ) → List Table → List Table → Option BlifFault
+tables_fault leaves dont_care tables = first_of
+    (option_map (λ name. BadExdc name) (first_bad_part_name leaves dont_care)
+    ∷ option_map (λ name. Cycle name) (first_on_cycle tables) ∷ [])
+
+-- what is wrong with the whole
+unfoldable pub whole_fault : Told → Option BlifFault
+whole_fault told = first_of
+    (listed_fault told ∷ drivers_fault told.inputs told.drives told.reads ∷ tables_fault (leaves_of told) told.dont_care told.tables ∷ [])
+
+-- the circuit of what is told: each table of the model has each of its inputs once, those of the
+-- don't-care part are as they are written
+abbrev pub circuit_of : Told → Circuit
+circuit_of told = record {
+  name = told.name;
+  inputs = told.inputs;
+  outputs = told.outputs;
+  clocks = told.clocks;
+  timing = told.timing;
+  latches = told.latches;
+  tables = map folded told.tables;
+  dont_care = told.dont_care;
+}
+
+-- whether a machine is told: a KISS2 part begins, and the model itself has no table, latch or gate
+-- and no `.subckt` line
+abbrev pub is_machine : Told → Bool
+is_machine told = told.has_kiss && not told.has_nodes && not told.has_instances
 
 -- names that are listed, if a line lists any
 abbrev pub listed_where : Bool → List (List ℕ) → Option (List (List ℕ))
 listed_where listed names = if listed then Some names else None
 
--- what the lines say of a machine outside its KISS2 part: its name, and its ports if lines list
--- them
-unfoldable pub head_of : List Entry → Head
-head_of lines = record {
-  name = model_name lines;
-  inputs = listed_where (lists_inputs (model_lines lines)) (of_lines listed_inputs (model_lines lines));
-  outputs = listed_where (lists_outputs (model_lines lines)) (of_lines listed_outputs (model_lines lines));
+-- what is told of a machine outside its KISS2 part: its name, and its ports if lines list them
+abbrev pub head_of : Told → Head
+head_of told = record {
+  name = told.name;
+  inputs = listed_where told.lists_inputs told.listed_inputs;
+  outputs = listed_where told.lists_outputs told.listed_outputs;
 }
 
 -- what is wrong with a machine's listed ports: one that is listed twice, among the inputs, among
 -- the outputs, or once among each, that is, twice among all ports
-unfoldable pub head_fault : List Entry → Option BlifFault
-head_fault lines = option_map (λ name. NameTwice name) (first_listed_twice (ports_in (model_lines lines)) [] (ports_in (model_lines lines)))
+abbrev pub head_fault : Told → Option BlifFault
+head_fault told = option_map (λ name. NameTwice name) (first_listed_twice told.ports [] told.ports)
 
 -- a fault of the whole, or what is read if there is none
 abbrev pub unless : {A : Type 0} → Option BlifFault → A → Result A BlifFault
 unless None read = Ok read
 unless (Some fault) read = Err fault
 
--- what lines without a fault of their own are read as
-abbrev pub read_whole : Option (List TheGate) → Bool → List Entry → Result Content BlifFault
-read_whole library true lines = unless (head_fault lines) (content.Head (head_of lines))
-read_whole library false lines = unless (whole_fault library lines) (content.Circuit (circuit_of library lines))
+-- what is read of what is told, as a machine or not
+abbrev pub read_as : Bool → Told → Result Content BlifFault
+read_as true told = unless (head_fault told) (content.Head (head_of told))
+read_as false told = unless (whole_fault told) (content.Circuit (circuit_of told))
+
+-- what is read of what lines tell that have no fault of their own
+unfoldable pub read_told : Told → Result Content BlifFault
+read_told told = read_as (is_machine told) told
 
 -- the first fault of a line, or what is read of the whole if there is none
 abbrev pub first_fault : {A : Type 0} → Option BlifFault → Result A BlifFault → Result A BlifFault
@@ -394,7 +455,7 @@ first_fault (Some fault) read = Err fault
 -- what a model's logical lines are read as, with a library if there is one: the first fault of a
 -- line, then one of the whole, otherwise the circuit, or the head of a machine
 unfoldable pub read_lines : Option (List TheGate) → List Entry → Result Content BlifFault
-read_lines library lines = first_fault (first_line_fault library [] lines) (read_whole library (is_machine lines) lines)
+read_lines library lines = first_fault (first_line_fault library [] lines) (read_told (told_by library lines))
 
 -- what a reader answers, compared with what it should; want of memory is always allowed
 abbrev pub Reads : Result Content ReadFault → Result Content BlifFault → Type 0

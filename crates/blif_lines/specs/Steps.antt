@@ -1,39 +1,33 @@
--- What the reader keeps of the lines that it has read, and what one more line adds to it. Source:
--- BLIF appendix of the SIS report (UCB/ERL M92/41). Lines and Reader say what is wrong with a line,
--- what it means, and what all lines mean. Here each list grows by what Reader says of the line, and
--- the fault of a line is that of Lines, by what the draft tells of the lines before it; so both are
--- defined once. A law says that lines taken one by one are read as Reader says. Only clauses of
--- private functions cite this module, and those of blif_models, which takes lines one by one too.
-use Rattle.std.specs.Prelude.{◌≡◌, ℕ, ◌+◌, Bool, true, false, not, ◌&&◌, ◌||◌, ◌==◌, Option, Some, None, Result, Ok, Err, List, [], ◌∷◌, ◌++◌, map, find, length, codes, if◌then◌else◌}
+-- What the reader keeps of the lines that it has read, what one more line adds to it, and what it
+-- tells. Source: BLIF appendix of the SIS report (UCB/ERL M92/41). Lines defines what is wrong with
+-- a line, by what the lines before it tell; Reader what a line means, and what is wrong with the
+-- whole and what is read of it, by what all lines tell. Here each list grows by what Reader says of
+-- the line, and a draft tells what its lines tell (`before_of`, `told_of`), which a law says; so a
+-- fault, a circuit and a head are defined once. Only clauses of private functions cite this module,
+-- and those of blif_models, which takes lines one by one too.
+use Rattle.std.specs.Prelude.{◌≡◌, ℕ, ◌+◌, Bool, true, false, not, ◌&&◌, ◌||◌, ◌==◌, Option, Some, None, Result, Ok, Err, List, [], ◌∷◌, ◌++◌, length, codes, if◌then◌else◌}
 use Rattle.std.specs.Option.{option_map}
-use Rattle.circuit_model.specs.Names.{has, all_different}
-use Rattle.circuit_model.specs.Soundness.{outputs_of, control_of}
+use Rattle.circuit_model.specs.Names.{all_different}
+use Rattle.circuit_model.specs.Soundness.{outputs_of}
 use Rattle.circuit_model.specs.declared.circuit.Tri.{Tri}
 use Rattle.circuit_model.specs.declared.circuit.Timing.{Timing}
 use Rattle.circuit_model.specs.declared.circuit.Table.{Table}
 use Rattle.circuit_model.specs.declared.circuit.Latch.{Latch as TheLatch}
-use Rattle.circuit_model.specs.declared.circuit.Circuit.{Circuit}
 use Rattle.sis_text.specs.Entries.{Entry}
-use Rattle.circuit_checks.specs.NameChecks.{first_again, first_missing, first_listed_twice}
-use Rattle.circuit_checks.specs.Cycles.{first_on_cycle}
-use Rattle.circuit_checks.specs.PartChecks.{first_bad_part_name}
-use Rattle.circuit_tables.specs.Folding.{folded}
+use Rattle.circuit_checks.specs.NameChecks.{first_again, first_listed_twice}
 use Rattle.line_words.specs.LineWords.{first_word, other_words}
 use Rattle.genlib_format.specs.declared.gate.Gate.{Gate as TheGate}
 use Rattle.blif_lines.specs.Keyword.{keyword_of, is_row_kind}
 use Rattle.blif_lines.specs.Lines.{Growing, Before, fault_as, is_table_kind, first_of, joined, output_character, is_none, is_end_kind, begins_part, begins_kiss, is_node_kind}
-use Rattle.blif_lines.specs.Reader.{row_of, named_by, table_of, latch_of, timing_of, same_timing, names_beside, gate_tables, listed_where, unless, listed_inputs, listed_outputs, listed_ports, listed_clocks, driven_by, read_by, read_within, is_inputs_kind, is_outputs_kind, is_latch_line, is_instance_kind}
+use Rattle.blif_lines.specs.Reader.{Told, leaves_of, drivers_fault, tables_fault, read_told, row_of, named_by, table_of, latch_of, timing_of, same_timing, names_beside, gate_tables, unless, listed_inputs, listed_outputs, listed_ports, listed_clocks, driven_by, read_by, read_within, is_inputs_kind, is_outputs_kind, is_latch_line, is_instance_kind}
 use Rattle.blif_lines.specs.declared.keyword.Keyword.{Keyword}
-use Rattle.blif_lines.specs.declared.keyword.Keyword.TheVariants.{Model, Gate, DontCare}
+use Rattle.blif_lines.specs.declared.keyword.Keyword.TheVariants.{Model, Gate}
 use Rattle.blif_lines.specs.declared.part.Part.{Part}
 use Rattle.blif_lines.specs.declared.part.Part.TheVariants as part
 use Rattle.blif_lines.specs.declared.fault.BlifFault.{BlifFault}
-use Rattle.blif_lines.specs.declared.fault.BlifFault.TheVariants.{NameTwice, MixedClock, GatedClock, TwoDrivers, Undriven, BadExdc, Cycle}
 use Rattle.blif_lines.specs.declared.fault.ReadFault.{ReadFault}
 use Rattle.blif_lines.specs.declared.fault.ReadFault.TheVariants as read_fault
-use Rattle.blif_lines.specs.declared.content.Head.{Head}
 use Rattle.blif_lines.specs.declared.content.Content.{Content}
-use Rattle.blif_lines.specs.declared.content.Content.TheVariants as content
 use Rattle.blif_lines.specs.declared.draft.Reading.{Reading}
 use Rattle.blif_lines.specs.declared.draft.Draft.{Draft}
 
@@ -249,45 +243,24 @@ abbrev pub listed_or : Bool → List (List ℕ) → List (List ℕ) → List (Li
 listed_or true listed found = listed
 listed_or false listed found = found
 
--- what is kept of a model's lines: whether a KISS2 part begins, whether there is a `.subckt` line,
--- the name, whether lines list inputs and outputs, the listed ones, all ports in order, clocks, the
--- signals that are driven, those that are read, those that tables, latches and gates read before a
--- line lists inputs, the latches with their timing and the line of the first whose timing differs,
--- the tables, those of the don't-care part
-pub record Kept : Type 0 where
-  pub has_kiss : Bool
-  pub has_instances : Bool
-  pub name : List ℕ
-  pub lists_inputs : Bool
-  pub inputs : List (List ℕ)
-  pub lists_outputs : Bool
-  pub outputs : List (List ℕ)
-  pub ports : List (List ℕ)
-  pub clocks : List (List ℕ)
-  pub drives : List (List ℕ)
-  pub reads : List (List ℕ)
-  pub inner : List (List ℕ)
-  pub timing : Option Timing
-  pub mixed : Option ℕ
-  pub latches : List TheLatch
-  pub tables : List Table
-  pub dont_care : List Table
-
--- what is kept after the last line
-abbrev pub kept_of : Draft → Kept
-kept_of draft = record {
+-- what a draft tells of the whole after the last line; ports that no line lists are found, the
+-- inputs among the signals that tables, latches and gates read before a line lists inputs
+abbrev pub told_of : Draft → Told
+told_of draft = record {
   has_kiss = draft.has_kiss;
+  has_nodes = not (is_none draft.drives);
   has_instances = draft.has_instances;
   name = draft.name;
   lists_inputs = draft.lists_inputs;
-  inputs = draft.inputs;
+  listed_inputs = draft.inputs;
   lists_outputs = draft.lists_outputs;
-  outputs = draft.outputs;
+  listed_outputs = draft.outputs;
   ports = draft.ports;
+  inputs = listed_or draft.lists_inputs draft.inputs (names_beside draft.drives draft.inner);
+  outputs = listed_or draft.lists_outputs draft.outputs (names_beside draft.reads draft.drives);
   clocks = draft.clocks;
   drives = draft.drives;
   reads = draft.reads;
-  inner = draft.inner;
   timing = draft.timing;
   mixed = draft.mixed;
   latches = draft.latches;
@@ -295,125 +268,39 @@ kept_of draft = record {
   dont_care = part_of draft.has_part (tables_with draft.tables draft.reading);
 }
 
--- the inputs: those that are listed, otherwise those that tables, latches and gates read and
--- nothing drives
-abbrev pub kept_inputs : Kept → List (List ℕ)
-kept_inputs kept = listed_or kept.lists_inputs kept.inputs (names_beside kept.drives kept.inner)
-
--- the outputs: those that are listed, otherwise those that are driven and not read
-abbrev pub kept_outputs : Kept → List (List ℕ)
-kept_outputs kept = listed_or kept.lists_outputs kept.outputs (names_beside kept.reads kept.drives)
-
--- the leaves: inputs and latch outputs
-abbrev pub kept_leaves : Kept → List (List ℕ)
-kept_leaves kept = kept_inputs kept ++ map (λ (latch : TheLatch). latch.output) kept.latches
-
--- what is wrong with the latches' timing, by the line of the first whose timing differs and the
--- signals that are driven
-unfoldable pub timing_fault : Option ℕ → Option Timing → List (List ℕ) → Option BlifFault
-timing_fault mixed timing drives = first_of
-    (option_map (λ number. MixedClock number) mixed ∷ option_map (λ name. GatedClock name) (find (has drives) (control_of timing)) ∷ [])
-
--- what is wrong with the drivers, by the inputs and the driven and read signals
-unfoldable pub drivers_fault : List (List ℕ) → List (List ℕ) → List (List ℕ) → Option BlifFault
-drivers_fault inputs drives reads = first_of
-    (option_map (λ name. TwoDrivers name) (first_again inputs drives)
-    ∷ option_map (λ name. Undriven name) (first_missing (inputs ++ drives) reads) ∷ [])
-
--- what is wrong with the tables, by the leaves, the don't-care part and the model's tables
-unfoldable pub tables_fault : List (List ℕ) → List Table → List Table → Option BlifFault
-tables_fault leaves dont_care tables = first_of
-    (option_map (λ name. BadExdc name) (first_bad_part_name leaves dont_care)
-    ∷ option_map (λ name. Cycle name) (first_on_cycle tables) ∷ [])
-
--- what is wrong with what is listed: a port that occurs twice, the timing of the latches
-unfoldable pub listed_fault : List (List ℕ) → List (List ℕ) → List (List ℕ) → Option ℕ → Option Timing → List (List ℕ) → Option BlifFault
-listed_fault inputs outputs ports mixed timing drives = first_of
-    (option_map (λ name. NameTwice name) (first_listed_twice inputs outputs ports) ∷ timing_fault mixed timing drives ∷ [])
-
--- what is wrong with what is kept
-unfoldable pub kept_fault : Kept → Option BlifFault
-kept_fault kept = first_of
-    (listed_fault kept.inputs kept.outputs kept.ports kept.mixed kept.timing kept.drives
-    ∷ drivers_fault (kept_inputs kept) kept.drives kept.reads
-    ∷ tables_fault (kept_leaves kept) kept.dont_care kept.tables ∷ [])
-
--- the circuit of what is kept: each table of the model has each of its inputs once
-abbrev pub kept_circuit : Kept → Circuit
-kept_circuit kept = record {
-  name = kept.name;
-  inputs = kept_inputs kept;
-  outputs = kept_outputs kept;
-  clocks = kept.clocks;
-  timing = kept.timing;
-  latches = kept.latches;
-  tables = map folded kept.tables;
-  dont_care = kept.dont_care;
-}
-
--- whether what is kept is a machine's: a KISS2 part begins, nothing is driven, and there is no
--- `.subckt` line
-abbrev pub is_kept_machine : Kept → Bool
-is_kept_machine kept = kept.has_kiss && is_none kept.drives && not kept.has_instances
-
--- the head of the machine of what is kept
-abbrev pub kept_head : Kept → Head
-kept_head kept = record {
-  name = kept.name;
-  inputs = listed_where kept.lists_inputs kept.inputs;
-  outputs = listed_where kept.lists_outputs kept.outputs;
-}
-
--- what is wrong with the listed ports of a machine
-abbrev pub kept_head_fault : Kept → Option BlifFault
-kept_head_fault kept = option_map (λ name. NameTwice name) (first_listed_twice kept.ports [] kept.ports)
-
--- what is read of what is kept
-abbrev pub read_kept_as : Bool → Kept → Result Content BlifFault
-read_kept_as true kept = unless (kept_head_fault kept) (content.Head (kept_head kept))
-read_kept_as false kept = unless (kept_fault kept) (content.Circuit (kept_circuit kept))
-
-unfoldable pub read_kept : Kept → Result Content BlifFault
-read_kept kept = read_kept_as (is_kept_machine kept) kept
-
 -- the draft after the last line, with its ports and with the tables of the model and of the part
 unfoldable pub settled : Draft → Draft
 settled draft = record draft {
-  inputs = kept_inputs (kept_of draft);
-  outputs = kept_outputs (kept_of draft);
-  model_tables = model_of draft.has_part draft.model_tables (tables_with draft.tables draft.reading);
-  tables = part_of draft.has_part (tables_with draft.tables draft.reading);
+  inputs = (told_of draft).inputs;
+  outputs = (told_of draft).outputs;
+  model_tables = (told_of draft).tables;
+  tables = (told_of draft).dont_care;
   reading = None;
 }
 
--- the circuit of a draft that is settled
-abbrev pub settled_circuit : Draft → Circuit
-settled_circuit draft = record {
-  name = draft.name;
+-- what a draft tells of the whole when it is settled
+abbrev pub settled_told : Draft → Told
+settled_told draft = record (told_of draft) {
   inputs = draft.inputs;
   outputs = draft.outputs;
-  clocks = draft.clocks;
-  timing = draft.timing;
-  latches = draft.latches;
-  tables = map folded draft.model_tables;
+  tables = draft.model_tables;
   dont_care = draft.tables;
 }
 
--- what is wrong with a draft that is settled
+-- what is wrong with the drivers and the tables of a draft that is settled
 unfoldable pub settled_fault : Draft → Option BlifFault
 settled_fault draft = first_of
-    (drivers_fault draft.inputs draft.drives draft.reads
-    ∷ tables_fault (draft.inputs ++ map (λ (latch : TheLatch). latch.output) draft.latches) draft.tables draft.model_tables ∷ [])
+    (drivers_fault draft.inputs draft.drives draft.reads ∷ tables_fault (leaves_of (settled_told draft)) draft.tables draft.model_tables ∷ [])
 
 -- the tables drive different signals if no port occurs twice and no signal is driven twice
-abbrev pub HasApartTables : Kept → Type 0
-HasApartTables kept =
-    first_listed_twice kept.inputs kept.outputs kept.ports ≡ None → first_again (kept_inputs kept) kept.drives ≡ None
-    → all_different (outputs_of kept.tables) ≡ true
+abbrev pub HasApartTables : Told → Type 0
+HasApartTables told =
+    first_listed_twice told.listed_inputs told.listed_outputs told.ports ≡ None → first_again told.inputs told.drives ≡ None
+    → all_different (outputs_of told.tables) ≡ true
 
 -- what is read of a draft after the last line
 abbrev pub finished : Draft → Result Content BlifFault
-finished draft = read_kept (kept_of draft)
+finished draft = read_told (told_of draft)
 
 -- what is read after the last line, if no line had a fault
 abbrev pub finish : Result Draft BlifFault → Result Content BlifFault

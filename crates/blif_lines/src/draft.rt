@@ -3,16 +3,17 @@
 //! Source: BLIF appendix of the SIS report (UCB/ERL M92/41). A `Draft` has the name, ports, clocks,
 //! latches and tables of the lines so far, the signals that they drive and read, and the table
 //! whose rows are being read. `take` adds one line or returns its fault, exactly as `take_entry` of
-//! `specs/Steps.antt`; proofs of this crate relate these steps to the definition of the whole
-//! (`specs/Lines.antt`, `specs/Reader.antt`). After an error the draft has no meaning.
+//! `specs/Steps.antt`; proofs of this crate say that a draft tells what its lines tell, by which
+//! `specs/Lines.antt` and `specs/Reader.antt` define all faults and what is read. After an error the
+//! draft has no meaning.
 
 ghost use Rattle.std.specs.Prelude.{◌≡◌, ℕ, Option, List, ◌<◌, [], length, option_copied, IfOk, OnOk, OnErr, IfSome};
 ghost use Rattle.sis_text.specs.Entries.{Entry};
 ghost use Rattle.line_words.specs.LineWords.{texts};
 ghost use Rattle.genlib_format.specs.declared.gate.Gate.{Gate as TheGate};
 ghost use Rattle.blif_lines.specs.declared.keyword.Keyword.{Keyword};
-ghost use Rattle.blif_lines.specs.Reader.{named_by, table_of, unless};
-ghost use Rattle.blif_lines.specs.Steps.{with_row, row_behind, tables_with, closed, place_at, place_of, take_as, take_entry, no_lines, is_kept_machine, kept_of, Takes, TakesLine};
+ghost use Rattle.blif_lines.specs.Reader.{named_by, table_of, is_machine, unless};
+ghost use Rattle.blif_lines.specs.Steps.{with_row, row_behind, tables_with, closed, place_at, place_of, take_as, take_entry, no_lines, told_of, Takes, TakesLine};
 
 use crate::fault::{BlifFault, ReadFault};
 use crate::gate_words::{add_gate_signals, gate_table};
@@ -465,7 +466,7 @@ impl Draft {
     /// Whether the lines describe a machine: a KISS2 part begins, nothing is driven, and there is
     /// no `.subckt` line.
     pub fn is_machine(&self) -> bool
-        ensures { result ≡ is_kept_machine (kept_of self.now) }
+        ensures { result ≡ is_machine (told_of self.now) }
     {
         self.has_kiss && self.drives.is_empty() && !self.has_instances
     }

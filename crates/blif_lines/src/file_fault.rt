@@ -3,17 +3,16 @@
 //! Source: BLIF appendix of the SIS report (UCB/ERL M92/41): each signal has one driver, tables
 //! form no cycle, and all latches share one clock. The checks are in this order: ports listed
 //! twice, the timing of latches, drivers, the don't-care part, cycles. Each call returns exactly
-//! the fault that `specs/Steps.antt` defines over a draft. The search for cycles requires that no
-//! two tables drive one signal, which the earlier checks give.
+//! the fault that `specs/Reader.antt` defines by what is told, here by a draft. The search for
+//! cycles requires that no two tables drive one signal, which the earlier checks give.
 
-ghost use Rattle.std.specs.Prelude.{◌≡◌, ◌++◌, true, None, [], map, find, option_copied, IfOk, OnOk};
-ghost use Rattle.std.specs.Option.{option_map};
+ghost use Rattle.std.specs.Prelude.{◌≡◌, ◌++◌, true, None, map, find, option_copied, IfOk, OnOk};
 ghost use Rattle.circuit_model.specs.Names.{has, all_different};
 ghost use Rattle.circuit_model.specs.Soundness.{outputs_of, control_of};
 ghost use Rattle.circuit_model.specs.declared.circuit.Latch.{Latch};
 ghost use Rattle.circuit_checks.specs.NameChecks.{first_again, first_listed_twice};
-ghost use Rattle.blif_lines.specs.declared.fault.BlifFault.TheVariants.{NameTwice};
-ghost use Rattle.blif_lines.specs.Steps.{listed_fault, timing_fault, drivers_fault, tables_fault, settled_fault};
+ghost use Rattle.blif_lines.specs.Reader.{timing_fault, listed_fault, drivers_fault, tables_fault, head_fault};
+ghost use Rattle.blif_lines.specs.Steps.{told_of, settled_fault};
 
 use crate::draft::Draft;
 use crate::fault::BlifFault;
@@ -66,7 +65,7 @@ fn driven_control<'a>(timing: &'a Option<Timing>, drives: &[Name]) -> Option<&'a
 
 /// What is wrong with the latches' timing: the line of the first whose timing differs, otherwise
 /// the control if it is driven.
-#[tactic(auto, unfolding(crate::specs::Steps::timing_fault, crate::specs::Lines::first_of))]
+#[tactic(auto, unfolding(crate::specs::Reader::timing_fault, crate::specs::Lines::first_of))]
 fn timing_fault(
     alloc: Global,
     mixed: Option<usize>,
@@ -86,10 +85,9 @@ fn timing_fault(
 
 /// What is wrong with what the lines of a draft list: the first port that is listed twice,
 /// otherwise the timing of its latches.
-#[tactic(auto, unfolding(crate::specs::Steps::listed_fault, crate::specs::Lines::first_of))]
+#[tactic(auto, unfolding(crate::specs::Reader::listed_fault, crate::specs::Lines::first_of))]
 pub fn listed_fault(alloc: Global, draft: &Draft) -> Result<Option<BlifFault>, AllocError>
-    ensures fault { IfOk result (λ fault. fault ≡ listed_fault draft.now.inputs draft.now.outputs
-        draft.now.ports draft.now.mixed draft.now.timing draft.now.drives) }
+    ensures fault { IfOk result (λ fault. fault ≡ listed_fault (told_of draft.now)) }
     ensures once { IfOk result (λ fault. fault ≡ None
         → first_listed_twice draft.now.inputs draft.now.outputs draft.now.ports ≡ None) }
 {
@@ -104,7 +102,7 @@ pub fn listed_fault(alloc: Global, draft: &Draft) -> Result<Option<BlifFault>, A
 
 /// What is wrong with the drivers: the first signal that is driven twice, otherwise the first that
 /// is read and not driven.
-#[tactic(auto, unfolding(crate::specs::Steps::drivers_fault, crate::specs::Lines::first_of))]
+#[tactic(auto, unfolding(crate::specs::Reader::drivers_fault, crate::specs::Lines::first_of))]
 fn drivers_fault(
     alloc: Global,
     inputs: &[Name],
@@ -128,7 +126,7 @@ fn drivers_fault(
 
 /// What is wrong with tables: the name that is wrong with the first wrong one of the don't-care
 /// part, otherwise the first of the model that is reached from itself.
-#[tactic(auto, unfolding(crate::specs::Steps::tables_fault, crate::specs::Lines::first_of))]
+#[tactic(auto, unfolding(crate::specs::Reader::tables_fault, crate::specs::Lines::first_of))]
 fn tables_fault(
     alloc: Global,
     leaves: &[Name],
@@ -173,10 +171,10 @@ pub fn settled_fault(alloc: Global, draft: &Draft) -> Result<Option<BlifFault>, 
 }
 
 /// What is wrong with the listed ports of a machine: the first that is listed twice.
-pub fn head_fault(alloc: Global, ports: &[Name]) -> Result<Option<BlifFault>, AllocError>
-    ensures { IfOk result (λ fault. fault ≡ option_map (λ name. NameTwice name)
-        (first_listed_twice ports.now [] ports.now)) }
+pub fn head_fault(alloc: Global, draft: &Draft) -> Result<Option<BlifFault>, AllocError>
+    ensures { IfOk result (λ fault. fault ≡ head_fault (told_of draft.now)) }
 {
+    let ports = draft.ports.as_slice();
     let others = Names::new(alloc);
     match first_listed_twice(alloc, ports, others.as_slice(), ports)? {
         None => Ok(None),

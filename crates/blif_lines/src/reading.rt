@@ -8,8 +8,8 @@
 
 ghost use Rattle.std.specs.Prelude.{◌++◌, true, false, map, option_copied};
 ghost use Rattle.sis_text.specs.Entries.{entry_at};
-ghost use Rattle.blif_lines.specs.Reader.{read_lines, Reads};
-ghost use Rattle.blif_lines.specs.Steps.{take_entry, take_entries, kept_of, read_kept_as, finished, HasApartTables, Takes};
+ghost use Rattle.blif_lines.specs.Reader.{read_as, read_lines, Reads};
+ghost use Rattle.blif_lines.specs.Steps.{take_entry, take_entries, told_of, finished, HasApartTables, Takes};
 
 use crate::content::Content;
 use crate::draft::Draft;
@@ -71,19 +71,19 @@ fn take_runs(
 
 /// The head of a machine, from the draft after the last line, if no port is listed twice.
 fn read_head(alloc: Global, draft: Whole<Draft>) -> Result<Content, ReadFault>
-    ensures { Reads result (read_kept_as true (kept_of draft.it)) }
+    ensures { Reads result (read_as true (told_of draft.it)) }
 {
-    if let Some(fault) = head_fault(alloc, draft.it.ports.as_slice())? {
+    if let Some(fault) = head_fault(alloc, &draft.it)? {
         return Err(ReadFault::Fault(fault));
     }
     Ok(Content::Head(head_of(draft.into_it())))
 }
 
 /// The circuit of the draft after the last line, if nothing is wrong with the whole.
-#[tactic(auto, unfolding(crate::specs::Steps::kept_fault, crate::specs::Steps::settled, crate::specs::Steps::settled_fault, crate::specs::Lines::first_of))]
+#[tactic(auto, unfolding(crate::specs::Reader::whole_fault, crate::specs::Steps::settled, crate::specs::Steps::settled_fault, crate::specs::Lines::first_of))]
 fn read_circuit(alloc: Global, draft: Whole<Draft>) -> Result<Content, ReadFault>
-    requires { HasApartTables (kept_of draft.it) }
-    ensures { Reads result (read_kept_as false (kept_of draft.it)) }
+    requires { HasApartTables (told_of draft.it) }
+    ensures { Reads result (read_as false (told_of draft.it)) }
 {
     let mut draft = draft;
     if let Some(fault) = listed_fault(alloc, &draft.it)? {
@@ -98,9 +98,9 @@ fn read_circuit(alloc: Global, draft: Whole<Draft>) -> Result<Content, ReadFault
 
 /// What is read of a draft after the last line: its circuit or the head of a machine, if nothing is
 /// wrong with the whole.
-#[tactic(auto, unfolding(crate::specs::Steps::read_kept))]
+#[tactic(auto, unfolding(crate::specs::Reader::read_told))]
 pub fn finish(alloc: Global, draft: Whole<Draft>) -> Result<Content, ReadFault>
-    requires { HasApartTables (kept_of draft.it) }
+    requires { HasApartTables (told_of draft.it) }
     ensures { Reads result (finished draft.it) }
 {
     if draft.it.is_machine() {

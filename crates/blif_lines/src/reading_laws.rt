@@ -16,7 +16,7 @@ ghost use Rattle.blif_lines.specs.Libraries.{IsSoundLibrary};
 ghost use Rattle.blif_lines.specs.Limits.{HasShortNames};
 ghost use Rattle.blif_lines.specs.Lines.{line_fault};
 ghost use Rattle.blif_lines.specs.Reader.{read_lines, has_instances, model_lines};
-ghost use Rattle.blif_lines.specs.Steps.{take_entry, take_entries, no_lines, kept_of, finish, HasApartTables};
+ghost use Rattle.blif_lines.specs.Steps.{take_entry, take_entries, no_lines, told_of, finish, HasApartTables};
 ghost use Rattle.blif_lines.specs.declared.draft.Draft.{Draft as TheDraft};
 
 /// Lines of words are read as a sound circuit, or a sound head of a machine.
@@ -48,7 +48,7 @@ pub fn a_draft_reads_its_lines()
     ensures whole { (library : Option (List Gate)) (lines : List Entry)
         → finish (take_entries library no_lines lines) ≡ read_lines library lines }
     ensures apart { (library : Option (List Gate)) (lines : List Entry) (draft : TheDraft)
-        → take_entries library no_lines lines ≡ Ok draft → HasApartTables (kept_of draft) }
+        → take_entries library no_lines lines ≡ Ok draft → HasApartTables (told_of draft) }
     ensures instances { (library : Option (List Gate)) (lines : List Entry) (draft : TheDraft)
         → take_entries library no_lines lines ≡ Ok draft
         → draft.has_instances ≡ has_instances (model_lines lines) }

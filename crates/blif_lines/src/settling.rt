@@ -8,7 +8,8 @@
 
 ghost use Rattle.std.specs.Prelude.{◌≡◌, map, IfOk, OnOk};
 ghost use Rattle.circuit_tables.specs.Folding.{folded};
-ghost use Rattle.blif_lines.specs.Steps.{settled, settled_circuit, kept_head, kept_of};
+ghost use Rattle.blif_lines.specs.Reader.{circuit_of, head_of};
+ghost use Rattle.blif_lines.specs.Steps.{told_of, settled, settled_told};
 
 use crate::content::Head;
 use crate::draft::{Draft, with_reading};
@@ -59,7 +60,7 @@ fn folded_tables(alloc: Global, tables: Tables) -> Result<Tables, AllocError>
 
 /// The circuit of a draft that is settled, with other tables for the model.
 fn circuit_with(draft: Draft, model_tables: Tables) -> Circuit
-    ensures { result ≡ record (settled_circuit draft) { tables = model_tables } }
+    ensures { result ≡ record (circuit_of (settled_told draft)) { tables = model_tables } }
 {
     Circuit {
         name: draft.name,
@@ -75,7 +76,7 @@ fn circuit_with(draft: Draft, model_tables: Tables) -> Circuit
 
 /// The circuit of a draft that is settled.
 pub fn circuit_of(alloc: Global, draft: Whole<Draft>) -> Result<Circuit, AllocError>
-    ensures { IfOk result (λ circuit. circuit ≡ settled_circuit draft.it) }
+    ensures { IfOk result (λ circuit. circuit ≡ circuit_of (settled_told draft.it)) }
 {
     let mut draft = draft;
     let tables = mem::replace(&mut draft.it.model_tables, Sequence::new(alloc));
@@ -85,7 +86,7 @@ pub fn circuit_of(alloc: Global, draft: Whole<Draft>) -> Result<Circuit, AllocEr
 
 /// The head of a machine, from the draft after the last line.
 pub fn head_of(draft: Draft) -> Head
-    ensures { result ≡ kept_head (kept_of draft) }
+    ensures { result ≡ head_of (told_of draft) }
 {
     let Draft {
         name,

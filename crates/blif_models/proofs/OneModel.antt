@@ -12,7 +12,7 @@ use Rattle.blif_lines.specs.declared.content.Content.{Content}
 use Rattle.blif_lines.specs.declared.fault.BlifFault.{BlifFault}
 use Rattle.blif_lines.specs.Keyword.{kind_of}
 use Rattle.blif_lines.specs.Lines.{first_of, begins_part, line_fault}
-use Rattle.blif_lines.specs.Reader.{model_lines, has_instances, first_fault, first_line_fault, is_machine, read_whole, read_lines}
+use Rattle.blif_lines.specs.Reader.{model_lines, has_instances, first_fault, first_line_fault, told_by, read_told, read_lines}
 use Rattle.blif_models.specs.Models.{begins_model, is_instance, put_before, models_of, instances_in}
 use Rattle.blif_models.specs.Flat.{flat_model}
 use Rattle.blif_models.specs.Reader.{later_fault, lines_fault, file_fault, unknown_model, models_fault, read_first, read_models}
@@ -104,7 +104,7 @@ one_model library (line ∷ rest) one none =
     ∙ ap (λ (unknown : Option BlifFault). first_fault (first_of (file_fault library [] (lines ∷ []) ∷ unknown ∷ [])) (read_first library (lines ∷ []) lines)) (no_unknown lines (no_instances lines none))
     ∙ ap (λ (fault : Option BlifFault). first_fault (first_of (fault ∷ None ∷ [])) (read_first library (lines ∷ []) lines)) (one_model_faults library lines)
     ∙ ap (λ (b : Bool). first_fault (first_of (first_line_fault library [] lines ∷ None ∷ [])) (if not b then read_lines library lines else first_fault (models_fault library (lines ∷ []) lines) (read_lines library (flat_model library (lines ∷ []) lines)))) (no_instances lines none)
-    ∙ same_again (first_line_fault library [] lines) (read_whole library (is_machine lines) lines)
+    ∙ same_again (first_line_fault library [] lines) (read_told (told_by library lines))
   where
     lines : List Entry
     lines = line ∷ rest

@@ -27,7 +27,7 @@ use Rattle.circuit_checks.proofs.Parts.{part_passes}
 use Rattle.circuit_tables.specs.Folding.{folded}
 use Rattle.circuit_tables.proofs.Folded.{folded_same, folded_outputs}
 use Rattle.blif_lines.specs.Lines.{first_of}
-use Rattle.blif_lines.specs.Reader.{first_line_fault, of_lines, model_lines, part_lines, listed_inputs, listed_outputs, inputs_in, outputs_in, ports_in, clocks_in, timing_in, mixed_clock, gated_clock, drives_in, reads_in, latches_in, tables_in, model_name, circuit_of, model_names_fault, leaves_in, whole_fault, unless, has_nodes, has_instances, is_machine, first_fault, read_whole, read_lines as read_model}
+use Rattle.blif_lines.specs.Reader.{first_line_fault, of_lines, model_lines, part_lines, listed_inputs, listed_outputs, inputs_in, outputs_in, ports_in, clocks_in, timing_in, drives_in, reads_in, latches_in, tables_in, model_name, circuit_of, whole_fault, unless, has_nodes, has_instances, first_fault, read_lines as read_model, told_by, timing_fault, listed_fault, drivers_fault, tables_fault, read_as, read_told}
 use Rattle.blif_lines.specs.declared.fault.BlifFault.{BlifFault}
 use Rattle.blif_lines.specs.declared.fault.BlifFault.TheVariants.{NameTwice, MixedClock, GatedClock, TwoDrivers, Undriven, BadExdc, Cycle}
 use Rattle.blif_lines.specs.Limits.{HasShortNames}
@@ -41,7 +41,7 @@ use Rattle.sis_base.specs.declared.limits.TheConstants.{MAX_NODES}
 use Rattle.blif_write.proofs.NoKiss.{no_kiss, no_part}
 use Rattle.blif_write.proofs.OneModel.{read_as_one}
 use Rattle.blif_write.proofs.Words.{OfTable, OfNames, IsName, HasGateWords, of_names, lines_written}
-use Rattle.blif_write.proofs.NoFaults.{IsShort, IsKnown, none_of, no_line_fault}
+use Rattle.blif_write.proofs.NoFaults.{IsShort, IsKnown, no_line_fault}
 use Rattle.blif_write.proofs.GateTables.{KeepsReads, keeps_reads, acyclic_before, tables_keep, said_count, read_known}
 use Rattle.blif_write.proofs.Said.{lines_of, own_of, listed_inputs_said, listed_outputs_said, inputs_said, outputs_said, ports_said, clocks_said, drives_said, reads_said, latches_said_back, timing_said, unmixed, name_said, tables_said_back, model_said, part_said, said_tables, said_reads}
 
@@ -81,8 +81,7 @@ none_has : (names controls : List (List ℕ)) → AllByRecursion (λ name. has n
 none_has names [] h = refl
 none_has names (control ∷ controls) h = ap (λ (b : Bool). cond b (Some control) (find (has names) controls)) h.0 ∙ none_has names controls h.1
 
-gated_of : (library : Option (List Gate)) (gates : List Placed) (base : Circuit) → IsSound (whole library gates base) → gated_clock library (own_of gates base) ≡ None
-unfolding gated_clock
+gated_of : (library : Option (List Gate)) (gates : List Placed) (base : Circuit) → IsSound (whole library gates base) → find (has (drives_in library (own_of gates base))) (control_of (timing_in (own_of gates base))) ≡ None
 gated_of library gates base sound =
     ap (λ (drives : List (List ℕ)). find (has drives) (control_of (timing_in (own_of gates base)))) (drives_whole library gates base)
     ∙ ap (λ (timing : Option Timing). find (has (latch_outputs base ++ outputs_of (whole library gates base).tables)) (control_of timing)) (timing_of library gates base sound)
@@ -99,7 +98,7 @@ missing_of library gates base sound =
     rw (inputs_said library gates base, drives_whole library gates base, reads_said library gates base)
     (missing_from_known (base.inputs ++ (latch_outputs base ++ outputs_of (whole library gates base).tables)) (base.outputs ++ (latch_inputs base ++ (said_reads library gates ++ table_inputs base.tables))) (all_read library gates base sound))
 
-part_of : (library : Option (List Gate)) (gates : List Placed) (base : Circuit) → IsSound (whole library gates base) → first_bad_part_name (leaves_in library (own_of gates base)) (tables_in library (part_lines (lines_of gates base))) ≡ None
+part_of : (library : Option (List Gate)) (gates : List Placed) (base : Circuit) → IsSound (whole library gates base) → first_bad_part_name (inputs_in library (own_of gates base) ++ map (λ (latch : Latch). latch.output) (latches_in (own_of gates base))) (tables_in library (part_lines (lines_of gates base))) ≡ None
 part_of library gates base sound =
     rw (inputs_said library gates base, latches_said_back gates base sound.inits, part_said library gates base sound.dont_care_shaped)
     (part_passes (leaf_names base) base.dont_care sound.dont_care_once sound.dont_care_known sound.dont_care_acyclic)
@@ -128,41 +127,21 @@ cycle_of library gates base sound =
     ap first_on_cycle (tables_said_back library gates base (shaped_of library gates base sound))
     ∙ none_from_acyclic tables (acyclic_before tables keep (subst IsAcyclic (sym (folded_whole library gates base sound)) sound.acyclic))
 
-no_names_fault : (library : Option (List Gate)) (gates : List Placed) (base : Circuit) → IsSound (whole library gates base) → model_names_fault library (own_of gates base) ≡ None
-unfolding model_names_fault
-no_names_fault library gates base sound =
-    let lines = own_of gates base in
-    none_of (option_map (λ (name : List ℕ). NameTwice name) (first_listed_twice (of_lines listed_inputs lines) (of_lines listed_outputs lines) (ports_in lines))
-    ∷ option_map (λ (number : ℕ). MixedClock number) (mixed_clock lines)
-    ∷ option_map (λ (name : List ℕ). GatedClock name) (gated_clock library lines)
-    ∷ option_map (λ (name : List ℕ). TwoDrivers name) (first_again (inputs_in library lines) (drives_in library lines))
-    ∷ option_map (λ (name : List ℕ). Undriven name) (first_missing (inputs_in library lines ++ drives_in library lines) (reads_in library lines)) ∷ []) (
-      ap (option_map (λ (name : List ℕ). NameTwice name)) (twice_of library gates base sound),
-      (
-        ap (option_map (λ (number : ℕ). MixedClock number)) (unmixed gates base sound.control_not_nil (timing_of library gates base sound)),
-        (
-          ap (option_map (λ (name : List ℕ). GatedClock name)) (gated_of library gates base sound),
-          (
-            ap (option_map (λ (name : List ℕ). TwoDrivers name)) (again_of library gates base sound),
-            (ap (option_map (λ (name : List ℕ). Undriven name)) (missing_of library gates base sound), tt),
-          ),
-        ),
-      ),
-    )
+no_causes : {a b c d e f g : Option BlifFault} → a ≡ None → b ≡ None → c ≡ None → d ≡ None → e ≡ None → f ≡ None → g ≡ None
+    → first_of (first_of (a ∷ first_of (b ∷ c ∷ []) ∷ []) ∷ first_of (d ∷ e ∷ []) ∷ first_of (f ∷ g ∷ []) ∷ []) ≡ None
+unfolding first_of
+no_causes a b c d e f g = rw (a, b, c, d, e, f, g) refl
 
-no_whole_fault : (library : Option (List Gate)) (gates : List Placed) (base : Circuit) → IsSound (whole library gates base) → whole_fault library (lines_of gates base) ≡ None
-unfolding whole_fault
-no_whole_fault library gates base sound =
-    let own = own_of gates base in
-    let part = tables_in library (part_lines (lines_of gates base)) in
-    ap (λ (lines : List Entry). first_of (model_names_fault library lines ∷ option_map (λ (name : List ℕ). BadExdc name) (first_bad_part_name (leaves_in library lines) part) ∷ option_map (λ (name : List ℕ). Cycle name) (first_on_cycle (tables_in library lines)) ∷ [])) (model_said gates base)
-    ∙ none_of (model_names_fault library own ∷ option_map (λ (name : List ℕ). BadExdc name) (first_bad_part_name (leaves_in library own) part) ∷ option_map (λ (name : List ℕ). Cycle name) (first_on_cycle (tables_in library own)) ∷ []) (
-      no_names_fault library gates base sound,
-      (
-        ap (option_map (λ (name : List ℕ). BadExdc name)) (part_of library gates base sound),
-        (ap (option_map (λ (name : List ℕ). Cycle name)) (cycle_of library gates base sound), tt),
-      ),
-    )
+no_whole_fault : (library : Option (List Gate)) (gates : List Placed) (base : Circuit) → IsSound (whole library gates base) → whole_fault (told_by library (lines_of gates base)) ≡ None
+unfolding whole_fault listed_fault timing_fault drivers_fault tables_fault told_by
+no_whole_fault library gates base sound = rw (model_said gates base) (no_causes
+    (ap (option_map (λ (name : List ℕ). NameTwice name)) (twice_of library gates base sound))
+    (ap (option_map (λ (number : ℕ). MixedClock number)) (unmixed gates base sound.control_not_nil (timing_of library gates base sound)))
+    (ap (option_map (λ (name : List ℕ). GatedClock name)) (gated_of library gates base sound))
+    (ap (option_map (λ (name : List ℕ). TwoDrivers name)) (again_of library gates base sound))
+    (ap (option_map (λ (name : List ℕ). Undriven name)) (missing_of library gates base sound))
+    (ap (option_map (λ (name : List ℕ). BadExdc name)) (part_of library gates base sound))
+    (ap (option_map (λ (name : List ℕ). Cycle name)) (cycle_of library gates base sound)))
 
 -- the circuit that the lines say
 abbrev circuit_with : List ℕ → List (List ℕ) → List (List ℕ) → List (List ℕ) → Option Timing → List Latch → List Table → List Table → Circuit
@@ -174,8 +153,8 @@ circuit_same : (name : List ℕ) (inputs outputs clocks : List (List ℕ)) (timi
     → circuit_with name inputs outputs clocks timing latches tables dont_care ≡ circuit
 circuit_same name inputs outputs clocks timing latches tables dont_care circuit a b c d e f g h = rw (a, b, c, d, e, f, g, h) refl
 
-circuit_back : (library : Option (List Gate)) (gates : List Placed) (base : Circuit) → IsSound (whole library gates base) → circuit_of library (lines_of gates base) ≡ whole library gates base
-unfolding circuit_of
+circuit_back : (library : Option (List Gate)) (gates : List Placed) (base : Circuit) → IsSound (whole library gates base) → circuit_of (told_by library (lines_of gates base)) ≡ whole library gates base
+unfolding told_by
 circuit_back library gates base sound =
     let lines = model_lines (lines_of gates base) in
     circuit_same (model_name (lines_of gates base)) (inputs_in library lines) (outputs_in library lines) (clocks_in lines) (timing_in lines) (latches_in lines) (map folded (tables_in library lines)) (tables_in library (part_lines (lines_of gates base))) (whole library gates base)
@@ -216,12 +195,12 @@ no_line_fault_of library gates base known sound limits short =
 
 lines_read : (library : Option (List Gate)) (gates : List Placed) (base : Circuit) → AllByRecursion (IsKnown library) gates → IsSound (whole library gates base) → IsWithinLimits (whole library gates base) → HasShortNames (whole library gates base)
     → read_model library (lines_of gates base) ≡ Ok (content.Circuit (whole library gates base))
-unfolding read_model is_machine
+unfolding read_model read_told told_by
 lines_read library gates base known sound limits short =
     let lines = lines_of gates base in
-    ap (λ (fault : Option BlifFault). first_fault fault (read_whole library (is_machine lines) lines)) (no_line_fault_of library gates base known sound limits short)
-    ∙ ap (λ (b : Bool). read_whole library (b && not (has_nodes (model_lines lines)) && not (has_instances (model_lines lines))) lines) (no_kiss gates base)
-    ∙ ap (λ (fault : Option BlifFault). unless fault (content.Circuit (circuit_of library lines))) (no_whole_fault library gates base sound)
+    ap (λ (fault : Option BlifFault). first_fault fault (read_told (told_by library lines))) (no_line_fault_of library gates base known sound limits short)
+    ∙ ap (λ (b : Bool). read_as (b && not (has_nodes (model_lines lines)) && not (has_instances (model_lines lines))) (told_by library lines)) (no_kiss gates base)
+    ∙ ap (λ (fault : Option BlifFault). unless fault (content.Circuit (circuit_of (told_by library lines)))) (no_whole_fault library gates base sound)
     ∙ ap (λ (read : Circuit). Ok (content.Circuit read)) (circuit_back library gates base sound)
 
 gates_have_words : (library : Option (List Gate)) (gates : List Placed) → AllByRecursion (IsKnown library) gates → AllByRecursion HasGateWords gates
