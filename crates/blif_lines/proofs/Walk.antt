@@ -8,8 +8,8 @@ use Rattle.sis_text.specs.declared.places.Line.{Line}
 use Rattle.sis_text.specs.Entries.{Entry, entry_at}
 use Rattle.genlib_format.specs.declared.gate.Gate.{Gate}
 use Rattle.blif_lines.specs.declared.fault.BlifFault.{BlifFault}
-use Rattle.blif_lines.specs.declared.fault.ReadFault.{ReadFault}
-use Rattle.blif_lines.specs.declared.fault.ReadFault.TheVariants.{Fault, Memory}
+use Rattle.sis_text.specs.declared.read_fault.ReadFault.{ReadFault}
+use Rattle.sis_text.specs.declared.read_fault.ReadFault.TheVariants.{Fault, Memory}
 use Rattle.blif_lines.specs.declared.draft.Draft.{Draft}
 use Rattle.blif_lines.specs.Steps.{take_entry, take_entries, onward, Takes}
 use Rattle.kiss_format.proofs.Walk.{entries_left}
@@ -28,7 +28,7 @@ pub walk_goes_on : (library : Option (List Gate)) (draft next : Draft) (source :
 walk_goes_on library draft next source lines i line h is taken =
     sym (walk_more library draft source lines i line h is ∙ ap (λ (r : Result Draft BlifFault). onward r (λ e. take_entries library e (drop (i + 1) (map (entry_at source) lines)))) taken)
 
-pub walk_fails : (library : Option (List Gate)) (fault : ReadFault) (draft next : Draft) (source : List ℕ) (lines : List Line) (i : ℕ) (line : Line) → i < length lines → line ≡ get_or lines i line → Takes (Err fault) next (take_entry library draft (entry_at source line)) → (whole : Result Draft BlifFault) → take_entries library draft (drop i (map (entry_at source) lines)) ≡ whole → Takes (Err fault) next whole
+pub walk_fails : (library : Option (List Gate)) (fault : ReadFault BlifFault) (draft next : Draft) (source : List ℕ) (lines : List Line) (i : ℕ) (line : Line) → i < length lines → line ≡ get_or lines i line → Takes (Err fault) next (take_entry library draft (entry_at source line)) → (whole : Result Draft BlifFault) → take_entries library draft (drop i (map (entry_at source) lines)) ≡ whole → Takes (Err fault) next whole
 walk_fails library (Fault fault) draft next source lines i line h is taken whole e =
     sym e ∙ (walk_more library draft source lines i line h is ∙ ap (λ (r : Result Draft BlifFault). onward r (λ d. take_entries library d (drop (i + 1) (map (entry_at source) lines)))) taken)
 walk_fails library Memory draft next source lines i line h is taken whole e = tt
@@ -44,11 +44,11 @@ taken_behind library (line ∷ front) back draft = by (take_entry library draft 
     by (Ok next) rest = rest next
     by (Err fault) rest = refl
 
-pub front_fails : (library : Option (List Gate)) (fault : ReadFault) (draft next : Draft) (front back : List Entry) → Takes (Err fault) next (take_entries library draft front) → Takes (Err fault) next (take_entries library draft (front ++ back))
+pub front_fails : (library : Option (List Gate)) (fault : ReadFault BlifFault) (draft next : Draft) (front back : List Entry) → Takes (Err fault) next (take_entries library draft front) → Takes (Err fault) next (take_entries library draft (front ++ back))
 front_fails library (Fault fault) draft next front back h =
     taken_behind library front back draft ∙ ap (λ (taken : Result Draft BlifFault). onward taken (λ last. take_entries library last back)) h
 front_fails library Memory draft next front back h = tt
 
-pub back_taken : (library : Option (List Gate)) (answer : Result (Unit {0}) ReadFault) (draft middle next : Draft) (front back : List Entry) → take_entries library draft front ≡ Ok middle → Takes answer next (take_entries library middle back) → Takes answer next (take_entries library draft (front ++ back))
+pub back_taken : (library : Option (List Gate)) (answer : Result (Unit {0}) (ReadFault BlifFault)) (draft middle next : Draft) (front back : List Entry) → take_entries library draft front ≡ Ok middle → Takes answer next (take_entries library middle back) → Takes answer next (take_entries library draft (front ++ back))
 back_taken library answer draft middle next front back e h =
     subst (Takes answer next) (sym (taken_behind library front back draft ∙ ap (λ (taken : Result Draft BlifFault). onward taken (λ last. take_entries library last back)) e)) h

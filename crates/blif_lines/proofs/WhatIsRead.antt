@@ -17,8 +17,9 @@ use Rattle.blif_lines.specs.Libraries.{IsSoundLibrary}
 use Rattle.blif_lines.specs.Limits.{HasShortNames}
 use Rattle.blif_lines.specs.Reader.{read_lines, Reads}
 use Rattle.blif_lines.specs.Steps.{take_entries, no_lines, told_of, finished, finish, HasApartTables, Takes}
-use Rattle.blif_lines.specs.declared.fault.ReadFault.{ReadFault}
-use Rattle.blif_lines.specs.declared.fault.ReadFault.TheVariants.{Fault, Memory}
+use Rattle.blif_lines.specs.declared.fault.BlifFault.{BlifFault}
+use Rattle.sis_text.specs.declared.read_fault.ReadFault.{ReadFault}
+use Rattle.sis_text.specs.declared.read_fault.ReadFault.TheVariants.{Fault, Memory}
 use Rattle.blif_lines.specs.declared.content.Content.{Content}
 use Rattle.blif_lines.specs.declared.content.Content.TheVariants as content
 use Rattle.blif_lines.specs.declared.content.Head.{Head}
@@ -63,11 +64,11 @@ pub apart_last : (library : Option (List Gate)) (lines : List Entry) (last : Dra
 apart_last library lines last e = tables_apart last (told_last library lines last e)
 
 -- the answer if a line has a fault, and after the last line
-pub fault_read : (library : Option (List Gate)) (fault : ReadFault) (last : Draft) (lines : List Entry) → Takes (Err fault) last (take_entries library no_lines lines) → Reads (Err fault) (read_lines library lines)
+pub fault_read : (library : Option (List Gate)) (fault : ReadFault BlifFault) (last : Draft) (lines : List Entry) → Takes (Err fault) last (take_entries library no_lines lines) → Reads (Err fault) (read_lines library lines)
 fault_read library (Fault fault) last lines h = sym (all_agree library lines) ∙ ap finish h
 fault_read library Memory last lines h = tt
 
-pub whole_read : (library : Option (List Gate)) (answer : Result Content ReadFault) (last : Draft) (lines : List Entry) → take_entries library no_lines lines ≡ Ok last → Reads answer (finished last) → Reads answer (read_lines library lines)
+pub whole_read : (library : Option (List Gate)) (answer : Result Content (ReadFault BlifFault)) (last : Draft) (lines : List Entry) → take_entries library no_lines lines ≡ Ok last → Reads answer (finished last) → Reads answer (read_lines library lines)
 whole_read library answer last lines e h = subst (Reads answer) (sym (ap finish e) ∙ all_agree library lines) h
 
 -- circuits

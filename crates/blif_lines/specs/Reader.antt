@@ -36,8 +36,8 @@ use Rattle.blif_lines.specs.declared.content.Content.TheVariants as content
 use Rattle.blif_lines.specs.declared.keyword.Keyword.{Keyword}
 use Rattle.blif_lines.specs.declared.keyword.Keyword.TheVariants.{Model, Inputs, Outputs, Clock, Names, Latch, Gate, Subckt}
 use Rattle.blif_lines.specs.declared.fault.BlifFault.{BlifFault}
-use Rattle.blif_lines.specs.declared.fault.ReadFault.{ReadFault}
-use Rattle.blif_lines.specs.declared.fault.ReadFault.TheVariants as read_fault
+use Rattle.sis_text.specs.declared.read_fault.ReadFault.{ReadFault}
+use Rattle.sis_text.specs.declared.read_fault.ReadFault.TheVariants as read_fault
 use Rattle.blif_lines.specs.declared.fault.BlifFault.TheVariants.{NameTwice, MixedClock, GatedClock, TwoDrivers, Undriven, BadExdc, Cycle}
 
 -- the first fault of a line, in file order
@@ -458,7 +458,7 @@ unfoldable pub read_lines : Option (List TheGate) → List Entry → Result Cont
 read_lines library lines = first_fault (first_line_fault library [] lines) (read_told (told_by library lines))
 
 -- what a reader answers, compared with what it should; want of memory is always allowed
-abbrev pub Reads : Result Content ReadFault → Result Content BlifFault → Type 0
+abbrev pub Reads : Result Content (ReadFault BlifFault) → Result Content BlifFault → Type 0
 Reads (Ok read) should = should ≡ Ok read
 Reads (Err (read_fault.Fault fault)) should = should ≡ Err fault
 Reads (Err read_fault.Memory) should = Unit {0}

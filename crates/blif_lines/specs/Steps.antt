@@ -25,8 +25,8 @@ use Rattle.blif_lines.specs.declared.keyword.Keyword.TheVariants.{Model, Gate}
 use Rattle.blif_lines.specs.declared.part.Part.{Part}
 use Rattle.blif_lines.specs.declared.part.Part.TheVariants as part
 use Rattle.blif_lines.specs.declared.fault.BlifFault.{BlifFault}
-use Rattle.blif_lines.specs.declared.fault.ReadFault.{ReadFault}
-use Rattle.blif_lines.specs.declared.fault.ReadFault.TheVariants as read_fault
+use Rattle.sis_text.specs.declared.read_fault.ReadFault.{ReadFault}
+use Rattle.sis_text.specs.declared.read_fault.ReadFault.TheVariants as read_fault
 use Rattle.blif_lines.specs.declared.content.Content.{Content}
 use Rattle.blif_lines.specs.declared.draft.Reading.{Reading}
 use Rattle.blif_lines.specs.declared.draft.Draft.{Draft}
@@ -309,19 +309,20 @@ finish (Err fault) = Err fault
 
 -- the answer and the result of a step, compared with what they should be; want of memory is always
 -- allowed
-abbrev pub Takes : Result (Unit {0}) ReadFault → Draft → Result Draft BlifFault → Type 0
+abbrev pub Takes : Result (Unit {0}) (ReadFault BlifFault) → Draft → Result Draft BlifFault → Type 0
 Takes (Ok done) draft should = should ≡ Ok draft
 Takes (Err (read_fault.Fault fault)) draft should = should ≡ Err fault
 Takes (Err read_fault.Memory) draft should = Unit {0}
 
 -- a line of a kind is taken, whatever the library and the words of the whole line are
-abbrev pub TakesLine : Keyword → Draft → ℕ → List (List ℕ) → Result (Unit {0}) ReadFault → Draft → Type 0
+abbrev pub TakesLine : Keyword → Draft → ℕ → List (List ℕ)
+    → Result (Unit {0}) (ReadFault BlifFault) → Draft → Type 0
 TakesLine kind before number words answer after =
     (library : Option (List TheGate)) (whole : List (List ℕ)) → Takes answer after (take_as library kind before number words whole)
 
 -- the answer for a line of a gate, compared with the fault and the tables that it should have; want
 -- of memory is always allowed
-abbrev pub IsTable : Result Table ReadFault → Option BlifFault → List Table → Type 0
+abbrev pub IsTable : Result Table (ReadFault BlifFault) → Option BlifFault → List Table → Type 0
 IsTable (Ok table) fault tables = (fault ≡ None) × (tables ≡ table ∷ [])
 IsTable (Err (read_fault.Fault one)) fault tables = fault ≡ Some one
 IsTable (Err read_fault.Memory) fault tables = Unit {0}

@@ -3,7 +3,6 @@
 
 use circuit_model::Name;
 use kiss_format::KissFault;
-use std::alloc::{AllocError, AllocFailed};
 
 /// What a limit is on.
 #[derive(Clone, Copy, Debug, PartialEq, Eq)]
@@ -81,32 +80,4 @@ pub enum BlifFault {
 }
 
 /// Why a reading ends without a circuit.
-#[derive(Debug, Drop)]
-pub enum ReadFault {
-    /// The file has a fault.
-    Fault(BlifFault),
-    /// Memory ran out.
-    Memory,
-}
-
-impl From<AllocError> for ReadFault {
-    ghost use Rattle.std.specs.Prelude.{◌≡◌};
-    ghost use Rattle.blif_lines.specs.declared.fault.ReadFault.TheVariants.{Memory};
-
-    ghost from_gives = { λ _ fault. fault ≡ Memory };
-
-    fn from(_error: AllocError) -> Self {
-        ReadFault::Memory
-    }
-}
-
-impl<T: Drop> From<AllocFailed<T>> for ReadFault {
-    ghost use Rattle.std.specs.Prelude.{◌≡◌};
-    ghost use Rattle.blif_lines.specs.declared.fault.ReadFault.TheVariants.{Memory};
-
-    ghost from_gives = { λ _ fault. fault ≡ Memory };
-
-    fn from(_error: AllocFailed<T>) -> Self {
-        ReadFault::Memory
-    }
-}
+pub type ReadFault = sis_text::ReadFault<BlifFault>;

@@ -11,8 +11,8 @@ use Rattle.sis_text.specs.Entries.{Entry, entry_at}
 use Rattle.genlib_format.specs.declared.gate.Gate.{Gate}
 use Rattle.blif_lines.specs.declared.draft.Draft.{Draft}
 use Rattle.blif_lines.specs.declared.fault.BlifFault.{BlifFault}
-use Rattle.blif_lines.specs.declared.fault.ReadFault.{ReadFault}
-use Rattle.blif_lines.specs.declared.fault.ReadFault.TheVariants.{Fault, Memory}
+use Rattle.sis_text.specs.declared.read_fault.ReadFault.{ReadFault}
+use Rattle.sis_text.specs.declared.read_fault.ReadFault.TheVariants.{Fault, Memory}
 use Rattle.blif_lines.specs.Keyword.{kind_of}
 use Rattle.blif_lines.specs.Lines.{first_of, line_fault}
 use Rattle.blif_lines.specs.Reader.{unless}
@@ -40,7 +40,7 @@ pub walk_goes_on : (library : Option (List Gate)) (earlier : List (List ℕ)) (d
 walk_goes_on library earlier draft next source lines i line h is taken =
     sym (walk_more library earlier draft source lines i line h is ∙ ap (λ (r : Result Draft BlifFault). onward r (λ e. check_entries library earlier e (drop (i + 1) (map (entry_at source) lines)))) taken)
 
-pub walk_fails : (library : Option (List Gate)) (earlier : List (List ℕ)) (fault : ReadFault) (draft next : Draft) (source : List ℕ) (lines : List Line) (i : ℕ) (line : Line) → i < length lines → line ≡ get_or lines i line
+pub walk_fails : (library : Option (List Gate)) (earlier : List (List ℕ)) (fault : ReadFault BlifFault) (draft next : Draft) (source : List ℕ) (lines : List Line) (i : ℕ) (line : Line) → i < length lines → line ≡ get_or lines i line
     → Takes (Err fault) next (check_entry library earlier draft (entry_at source line)) → (whole : Result Draft BlifFault) → check_entries library earlier draft (drop i (map (entry_at source) lines)) ≡ whole → Takes (Err fault) next whole
 walk_fails library earlier (Fault fault) draft next source lines i line h is taken whole e =
     sym e ∙ (walk_more library earlier draft source lines i line h is ∙ ap (λ (r : Result Draft BlifFault). onward r (λ d. check_entries library earlier d (drop (i + 1) (map (entry_at source) lines)))) taken)
@@ -91,7 +91,7 @@ checked_taken library earlier (line ∷ lines) draft last e = by (take_entry lib
     by (Err fault) later c rec = absurd (cc)
 
 -- the lines of a model, from none on
-pub model_checks : (A : Type 0) (library : Option (List Gate)) (earlier : List (List ℕ)) (model : List Entry) (last : Draft) (fault : ReadFault) → Takes (Err fault) last (check_entries library earlier no_lines model)
+pub model_checks : (A : Type 0) (library : Option (List Gate)) (earlier : List (List ℕ)) (model : List Entry) (last : Draft) (fault : ReadFault BlifFault) → Takes (Err fault) last (check_entries library earlier no_lines model)
     → Checks {A = A} (Err fault) (lines_fault library earlier [] model)
 unfolding take_entries
 model_checks A library earlier model last (Fault fault) took = sym (checked_fault library earlier [] model no_lines refl) ∙ ap result_err took
@@ -102,11 +102,11 @@ unfolding take_entries
 model_passes library earlier model last took = sym (checked_fault library earlier [] model no_lines refl) ∙ ap result_err took
 
 -- the first of two faults
-pub first_checks : (A B : Type 0) (fault : ReadFault) (one other whole : Option BlifFault) → whole ≡ option_or one other → Checks {A = A} (Err fault) one → Checks {A = B} (Err fault) whole
+pub first_checks : (A B : Type 0) (fault : ReadFault BlifFault) (one other whole : Option BlifFault) → whole ≡ option_or one other → Checks {A = A} (Err fault) one → Checks {A = B} (Err fault) whole
 first_checks A B (Fault fault) one other whole is here = is ∙ ap (λ found. option_or found other) here
 first_checks A B Memory one other whole is here = tt
 
-pub second_checks : (A B : Type 0) (fault : ReadFault) (one other whole : Option BlifFault) → whole ≡ option_or one other → one ≡ None → Checks {A = A} (Err fault) other → Checks {A = B} (Err fault) whole
+pub second_checks : (A B : Type 0) (fault : ReadFault BlifFault) (one other whole : Option BlifFault) → whole ≡ option_or one other → one ≡ None → Checks {A = A} (Err fault) other → Checks {A = B} (Err fault) whole
 second_checks A B (Fault fault) one other whole is none here = is ∙ ap (λ found. option_or found other) none ∙ here
 second_checks A B Memory one other whole is none here = tt
 

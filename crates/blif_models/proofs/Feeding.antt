@@ -4,7 +4,7 @@ use Rattle.std.proofs.lemmas.List.{drop_more, drop_all}
 use Rattle.sis_text.specs.Entries.{Entry}
 use Rattle.genlib_format.specs.declared.gate.Gate.{Gate as TheGate}
 use Rattle.blif_lines.specs.declared.fault.BlifFault.{BlifFault}
-use Rattle.blif_lines.specs.declared.fault.ReadFault.{ReadFault}
+use Rattle.sis_text.specs.declared.read_fault.ReadFault.{ReadFault}
 use Rattle.blif_lines.specs.declared.draft.Draft.{Draft}
 use Rattle.blif_lines.specs.Keyword.{kind_of}
 use Rattle.blif_lines.specs.Steps.{take_entry, take_entries, onward, Takes}
@@ -22,7 +22,7 @@ part_taken library draft next front back all whole split taken begun =
     ∙ begun
 
 -- a part with a fault
-pub part_fails : (library : Option (List TheGate)) (fault : ReadFault) (draft next : Draft) (front back all : List Entry) (whole : Result Draft BlifFault) → all ≡ front ++ back
+pub part_fails : (library : Option (List TheGate)) (fault : ReadFault BlifFault) (draft next : Draft) (front back all : List Entry) (whole : Result Draft BlifFault) → all ≡ front ++ back
     → Takes (Err fault) next (take_entries library draft front) → take_entries library draft all ≡ whole → Takes (Err fault) next whole
 part_fails library fault draft next front back all whole split failed begun =
     subst (Takes (Err fault) next) (sym (ap (take_entries library draft) split) ∙ begun) (front_fails library fault draft next front back failed)
@@ -33,7 +33,7 @@ unfolding take_entries
 none_left library draft all whole none begun = sym begun ∙ ap (take_entries library draft) none
 
 -- a line alone
-pub alone : (library : Option (List TheGate)) (answer : Result (Unit {0}) ReadFault) (draft next : Draft) (line : Entry) → Takes answer next (take_entry library draft line)
+pub alone : (library : Option (List TheGate)) (answer : Result (Unit {0}) (ReadFault BlifFault)) (draft next : Draft) (line : Entry) → Takes answer next (take_entry library draft line)
     → Takes answer next (take_entries library draft (line ∷ []))
 unfolding take_entries
 alone library answer draft next line took = subst (Takes answer next) (sym (by (take_entry library draft line))) took
@@ -65,7 +65,7 @@ staying_left lines i line lt is =
 pub staying_end : (lines : List Entry) (i : ℕ) → length lines ≤ i → staying (drop i lines) ≡ []
 staying_end lines i ge = ap staying (drop_all i lines ge)
 
-pub take_stays : (library : Option (List TheGate)) (answer : Result (Unit {0}) ReadFault) (draft next : Draft) (line : Entry) → stays (kind_of line) ≡ true
+pub take_stays : (library : Option (List TheGate)) (answer : Result (Unit {0}) (ReadFault BlifFault)) (draft next : Draft) (line : Entry) → stays (kind_of line) ≡ true
     → Takes answer next (take_entry library draft line) → Takes answer next (take_entries library draft (staying (line ∷ [])))
 take_stays library answer draft next line e took =
     subst (λ (lines : List Entry). Takes answer next (take_entries library draft lines)) (sym (stays_alone line e)) (alone library answer draft next line took)

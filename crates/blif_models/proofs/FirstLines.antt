@@ -12,7 +12,8 @@ use Rattle.blif_lines.specs.Reader.{model_lines, clocks_in, names_beside}
 use Rattle.blif_models.specs.Models.{model_graph, is_used, used_models, body_of}
 use Rattle.blif_models.specs.Ports.{ports_at, ports_with}
 use Rattle.blif_models.specs.PortTables.{once_ports, table_at}
-use Rattle.blif_lines.specs.declared.fault.ReadFault.{ReadFault}
+use Rattle.blif_lines.specs.declared.fault.BlifFault.{BlifFault}
+use Rattle.sis_text.specs.declared.read_fault.ReadFault.{ReadFault}
 use Rattle.blif_lines.specs.declared.draft.Draft.{Draft}
 use Rattle.blif_lines.specs.Steps.{take_entries, Takes}
 use Rattle.blif_models.specs.Flat.{added}
@@ -143,7 +144,7 @@ pub clocks_false : (models : List (List Entry)) (place : ℕ) → is_used (model
 clocks_false models place e = rw e refl
 
 -- lines fed to a draft
-pub fed_as : (library : Option (List TheGate)) (answer : Result (Unit {0}) ReadFault) (draft next : Draft) (lines others : List Entry) → lines ≡ others
+pub fed_as : (library : Option (List TheGate)) (answer : Result (Unit {0}) (ReadFault BlifFault)) (draft next : Draft) (lines others : List Entry) → lines ≡ others
     → Takes answer next (take_entries library draft lines) → Takes answer next (take_entries library draft others)
 fed_as library answer draft next lines others e took = subst (λ (some : List Entry). Takes answer next (take_entries library draft some)) e took
 

@@ -7,8 +7,8 @@ use Rattle.sis_text.specs.Entries.{Entry}
 use Rattle.genlib_format.specs.declared.gate.Gate.{Gate}
 use Rattle.blif_lines.specs.declared.content.Content.{Content}
 use Rattle.blif_lines.specs.declared.fault.BlifFault.{BlifFault}
-use Rattle.blif_lines.specs.declared.fault.ReadFault.{ReadFault}
-use Rattle.blif_lines.specs.declared.fault.ReadFault.TheVariants.{Fault, Memory}
+use Rattle.sis_text.specs.declared.read_fault.ReadFault.{ReadFault}
+use Rattle.sis_text.specs.declared.read_fault.ReadFault.TheVariants.{Fault, Memory}
 use Rattle.blif_lines.specs.Lines.{first_of}
 use Rattle.blif_lines.specs.Reader.{has_instances, model_lines, first_fault, Reads}
 use Rattle.blif_models.specs.Checking.{Checks}
@@ -36,16 +36,16 @@ unfolding models_fault nesting_fault sides_fault count_fault made_fault
 in_parts library models = grouped _ _ _ _ _ _ _
 
 -- a fault is the answer
-pub fault_read : (A : Type 0) (fault : ReadFault) (found : Option BlifFault) (whole : Result Content BlifFault) → Checks {A = A} (Err fault) found → Reads (Err fault) (first_fault found whole)
+pub fault_read : (A : Type 0) (fault : ReadFault BlifFault) (found : Option BlifFault) (whole : Result Content BlifFault) → Checks {A = A} (Err fault) found → Reads (Err fault) (first_fault found whole)
 fault_read A (Fault fault) found whole h = ap (λ one. first_fault one whole) h
 fault_read A Memory found whole h = tt
 
 -- without a fault the answer is that of the whole
-pub passed_read : (answer : Result Content ReadFault) (found : Option BlifFault) (whole : Result Content BlifFault) → found ≡ None → Reads answer whole → Reads answer (first_fault found whole)
+pub passed_read : (answer : Result Content (ReadFault BlifFault)) (found : Option BlifFault) (whole : Result Content BlifFault) → found ≡ None → Reads answer whole → Reads answer (first_fault found whole)
 passed_read answer found whole none h = subst (Reads answer) (sym (ap (λ one. first_fault one whole) none)) h
 
 -- the same with a fault that comes first
-pub first_read : (A : Type 0) (fault : ReadFault) (found other : Option BlifFault) (whole : Result Content BlifFault) → Checks {A = A} (Err fault) found → Reads (Err fault) (first_fault (first_of (found ∷ other ∷ [])) whole)
+pub first_read : (A : Type 0) (fault : ReadFault BlifFault) (found other : Option BlifFault) (whole : Result Content BlifFault) → Checks {A = A} (Err fault) found → Reads (Err fault) (first_fault (first_of (found ∷ other ∷ [])) whole)
 unfolding first_of
 first_read A (Fault fault) found other whole h = ap (λ one. first_fault (first_of (one ∷ other ∷ [])) whole) h
 first_read A Memory found other whole h = tt
@@ -55,7 +55,7 @@ unfolding first_of
 alone None = refl
 alone (Some fault) = refl
 
-pub second_read : (answer : Result Content ReadFault) (found other : Option BlifFault) (whole : Result Content BlifFault) → found ≡ None → Reads answer (first_fault other whole) → Reads answer (first_fault (first_of (found ∷ other ∷ [])) whole)
+pub second_read : (answer : Result Content (ReadFault BlifFault)) (found other : Option BlifFault) (whole : Result Content BlifFault) → found ≡ None → Reads answer (first_fault other whole) → Reads answer (first_fault (first_of (found ∷ other ∷ [])) whole)
 unfolding first_of
 second_read answer found other whole none h =
     subst (Reads answer) (sym (ap (λ one. first_fault (first_of (one ∷ other ∷ [])) whole) none ∙ ap (λ one. first_fault one whole) (alone other))) h

@@ -10,8 +10,8 @@ use Rattle.genlib_format.specs.declared.gate.Gate.{Gate as TheGate}
 use Rattle.blif_lines.specs.declared.fault.LimitKind.TheVariants as limit
 use Rattle.blif_lines.specs.declared.fault.BlifFault.{BlifFault}
 use Rattle.blif_lines.specs.declared.fault.BlifFault.TheVariants.{Limit}
-use Rattle.blif_lines.specs.declared.fault.ReadFault.{ReadFault}
-use Rattle.blif_lines.specs.declared.fault.ReadFault.TheVariants.{Fault, Memory}
+use Rattle.sis_text.specs.declared.read_fault.ReadFault.{ReadFault}
+use Rattle.sis_text.specs.declared.read_fault.ReadFault.TheVariants.{Fault, Memory}
 use Rattle.blif_lines.specs.Lines.{long_fault}
 use Rattle.blif_lines.specs.Reader.{unless}
 use Rattle.blif_models.specs.Files.{lines_at}
@@ -45,18 +45,18 @@ part_made made next front back all whole split taken begun =
     ∙ begun
 
 -- a part with a name that is too long
-front_unmade : (fault : ReadFault) (made next front back : List (List ℕ)) → Makes (Err fault) next (make_all made front) → Makes (Err fault) next (make_all made (front ++ back))
+front_unmade : (fault : ReadFault BlifFault) (made next front back : List (List ℕ)) → Makes (Err fault) next (make_all made front) → Makes (Err fault) next (make_all made (front ++ back))
 front_unmade (Fault fault) made next front back h =
     made_behind front back made ∙ ap (λ (r : Result (List (List ℕ)) BlifFault). after_made r (λ last. make_all last back)) h
 front_unmade Memory made next front back h = tt
 
-pub part_unmade : (fault : ReadFault) (made next front back all : List (List ℕ)) (whole : Result (List (List ℕ)) BlifFault) → all ≡ front ++ back
+pub part_unmade : (fault : ReadFault BlifFault) (made next front back all : List (List ℕ)) (whole : Result (List (List ℕ)) BlifFault) → all ≡ front ++ back
     → Makes (Err fault) next (make_all made front) → make_all made all ≡ whole → Makes (Err fault) next whole
 part_unmade fault made next front back all whole split failed begun =
     subst (Makes (Err fault) next) (sym (ap (make_all made) split) ∙ begun) (front_unmade fault made next front back failed)
 
 -- the last part
-pub rest_made : (answer : Result (Unit {0}) ReadFault) (made mid next front back all : List (List ℕ)) → all ≡ front ++ back → make_all made front ≡ Ok mid
+pub rest_made : (answer : Result (Unit {0}) (ReadFault BlifFault)) (made mid next front back all : List (List ℕ)) → all ≡ front ++ back → make_all made front ≡ Ok mid
     → Makes answer next (make_all mid back) → Makes answer next (make_all made all)
 rest_made answer made mid next front back all split taken last =
     subst (Makes answer next)
@@ -72,7 +72,7 @@ unfolding make_all
 nothing_made made all none = ap (make_all made) none
 
 -- a name alone
-pub alone_made : (answer : Result (Unit {0}) ReadFault) (made next all : List (List ℕ)) (name : List ℕ) → all ≡ name ∷ [] → Makes answer next (make_one made name)
+pub alone_made : (answer : Result (Unit {0}) (ReadFault BlifFault)) (made next all : List (List ℕ)) (name : List ℕ) → all ≡ name ∷ [] → Makes answer next (make_one made name)
     → Makes answer next (make_all made all)
 unfolding make_all
 alone_made answer made next all name is took = subst (Makes answer next) (sym (ap (make_all made) is ∙ by (make_one made name))) took
@@ -104,7 +104,7 @@ all_made start made names none e =
     by None is same = (let back = sym same in cc, is)
     by (Some fault) is same = absurd (let off = same in cc)
 
-pub none_made : (fault : ReadFault) (start next names : List (List ℕ)) → start ≡ [] → Makes (Err fault) next (make_all start names) → IsMade (Err fault) names
+pub none_made : (fault : ReadFault BlifFault) (start next names : List (List ℕ)) → start ≡ [] → Makes (Err fault) next (make_all start names) → IsMade (Err fault) names
 none_made (Fault fault) start next names none e =
     by (long_fault names) refl (sym (made_unless names start ∙ ap (λ (front : List (List ℕ)). unless (long_fault names) (front ++ names)) none) ∙ e)
   where
@@ -268,7 +268,7 @@ frame_begins frames left name signal many is =
     )
 
 -- an own signal of an instance
-pub signal_made : (answer : Result (Unit {0}) ReadFault) (frames : List Instance) (instance : Instance) (signal name : List ℕ) (made next : List (List ℕ)) → is_formal instance signal ≡ false
+pub signal_made : (answer : Result (Unit {0}) (ReadFault BlifFault)) (frames : List Instance) (instance : Instance) (signal name : List ℕ) (made next : List (List ℕ)) → is_formal instance signal ≡ false
     → name ≡ outside_all frames (outside instance signal) → Makes answer next (make_one made name) → Makes answer next (make_all made (own_names frames instance (signal ∷ [])))
 signal_made answer frames instance signal name made next e is took =
     alone_made answer made next (own_names frames instance (signal ∷ [])) name (own_other frames instance signal e ∙ ap (λ (one : List ℕ). one ∷ []) (sym is)) took

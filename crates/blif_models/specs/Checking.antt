@@ -5,8 +5,8 @@ use Rattle.sis_text.specs.Entries.{Entry}
 use Rattle.genlib_format.specs.declared.gate.Gate.{Gate}
 use Rattle.blif_lines.specs.declared.draft.Draft.{Draft}
 use Rattle.blif_lines.specs.declared.fault.BlifFault.{BlifFault}
-use Rattle.blif_lines.specs.declared.fault.ReadFault.{ReadFault}
-use Rattle.blif_lines.specs.declared.fault.ReadFault.TheVariants as read_fault
+use Rattle.sis_text.specs.declared.read_fault.ReadFault.{ReadFault}
+use Rattle.sis_text.specs.declared.read_fault.ReadFault.TheVariants as read_fault
 use Rattle.blif_lines.specs.Keyword.{kind_of}
 use Rattle.blif_lines.specs.Reader.{model_name, unless}
 use Rattle.blif_lines.specs.Steps.{take_entry, onward}
@@ -27,7 +27,7 @@ check_entries library earlier draft [] = Ok draft
 check_entries library earlier draft (line ∷ lines) = onward (check_entry library earlier draft line) (λ next. check_entries library earlier next lines)
 
 -- an answer, compared with the fault that it should be; want of memory is always allowed
-abbrev pub Checks : {A : Type 0} → Result A ReadFault → Option BlifFault → Type 0
+abbrev pub Checks : {A : Type 0} → Result A (ReadFault BlifFault) → Option BlifFault → Type 0
 Checks (Ok answer) fault = fault ≡ None
 Checks (Err (read_fault.Fault one)) fault = fault ≡ Some one
 Checks (Err read_fault.Memory) fault = Unit {0}

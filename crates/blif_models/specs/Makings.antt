@@ -10,8 +10,8 @@ use Rattle.genlib_format.specs.declared.gate.Gate.{Gate as TheGate}
 use Rattle.blif_lines.specs.declared.fault.LimitKind.TheVariants as limit
 use Rattle.blif_lines.specs.declared.fault.BlifFault.{BlifFault}
 use Rattle.blif_lines.specs.declared.fault.BlifFault.TheVariants.{Limit}
-use Rattle.blif_lines.specs.declared.fault.ReadFault.{ReadFault}
-use Rattle.blif_lines.specs.declared.fault.ReadFault.TheVariants as read_fault
+use Rattle.sis_text.specs.declared.read_fault.ReadFault.{ReadFault}
+use Rattle.sis_text.specs.declared.read_fault.ReadFault.TheVariants as read_fault
 use Rattle.blif_lines.specs.Keyword.{kind_of}
 use Rattle.blif_lines.specs.Lines.{long_fault}
 use Rattle.blif_models.specs.Models.{is_instance, model_of, pairs_of, body_of, size_of}
@@ -36,7 +36,8 @@ make_all made [] = Ok made
 make_all made (name ∷ names) = after_made (make_one made name) (λ next. make_all next names)
 
 -- the answer and the names, compared with what they should be; want of memory is always allowed
-abbrev pub Makes : Result (Unit {0}) ReadFault → List (List ℕ) → Result (List (List ℕ)) BlifFault → Type 0
+abbrev pub Makes : Result (Unit {0}) (ReadFault BlifFault) → List (List ℕ)
+    → Result (List (List ℕ)) BlifFault → Type 0
 Makes (Ok done) made should = should ≡ Ok made
 Makes (Err (read_fault.Fault fault)) made should = should ≡ Err fault
 Makes (Err read_fault.Memory) made should = Unit {0}
@@ -68,7 +69,7 @@ bare_instance place line = record { path = path_word (model_of line) place; pair
 
 -- the names that are made, or the fault of the first that is too long; want of memory is always
 -- allowed
-abbrev pub IsMade : Result (List (List ℕ)) ReadFault → List (List ℕ) → Type 0
+abbrev pub IsMade : Result (List (List ℕ)) (ReadFault BlifFault) → List (List ℕ) → Type 0
 IsMade (Ok made) names = (made ≡ names) × (long_fault names ≡ None)
 IsMade (Err (read_fault.Fault fault)) names = long_fault names ≡ Some fault
 IsMade (Err read_fault.Memory) names = Unit {0}

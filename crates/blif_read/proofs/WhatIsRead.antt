@@ -23,8 +23,8 @@ use Rattle.blif_lines.specs.declared.content.Content.{Content}
 use Rattle.blif_lines.specs.declared.content.Content.TheVariants as content
 use Rattle.blif_lines.specs.declared.fault.BlifFault.{BlifFault}
 use Rattle.blif_lines.specs.declared.fault.BlifFault.TheVariants.{BadKiss, NameTwice}
-use Rattle.blif_lines.specs.declared.fault.ReadFault.{ReadFault}
-use Rattle.blif_lines.specs.declared.fault.ReadFault.TheVariants.{Fault, Memory}
+use Rattle.sis_text.specs.declared.read_fault.ReadFault.{ReadFault}
+use Rattle.sis_text.specs.declared.read_fault.ReadFault.TheVariants.{Fault, Memory}
 use Rattle.blif_lines.proofs.NameLists.{all_kept}
 use Rattle.blif_models.specs.Reader.{read_models}
 use Rattle.blif_models.proofs.WhatIsRead.{sound_models, sound_head_models, small_models, short_models, short_head_models}
@@ -70,7 +70,7 @@ read_holds : (P : Spec → Type 0) (library : Option (List Gate)) (lines : List 
 unfolding read_lines
 read_holds P library lines read e circuits machines = spec_holds P (kiss_lines lines) (read_models library (lines_beside lines)) read e circuits machines
 
-pub reads_hold : (P : Spec → Type 0) (result : Result Spec ReadFault) (should : Result Spec BlifFault) → Reads result should → ((read : Spec) → should ≡ Ok read → P read) → IfOk result P
+pub reads_hold : (P : Spec → Type 0) (result : Result Spec (ReadFault BlifFault)) (should : Result Spec BlifFault) → Reads result should → ((read : Spec) → should ≡ Ok read → P read) → IfOk result P
 reads_hold P (Ok read) should reads holds = holds read reads
 reads_hold P (Err (Fault fault)) should reads holds = tt
 reads_hold P (Err Memory) should reads holds = tt

@@ -22,8 +22,8 @@ use Rattle.blif_lines.specs.declared.content.Content.{Content}
 use Rattle.blif_lines.specs.declared.content.Content.TheVariants as content
 use Rattle.blif_lines.specs.declared.fault.BlifFault.{BlifFault}
 use Rattle.blif_lines.specs.declared.fault.BlifFault.TheVariants.{BadKiss, NameTwice}
-use Rattle.blif_lines.specs.declared.fault.ReadFault.{ReadFault}
-use Rattle.blif_lines.specs.declared.fault.ReadFault.TheVariants as read_fault
+use Rattle.sis_text.specs.declared.read_fault.ReadFault.{ReadFault}
+use Rattle.sis_text.specs.declared.read_fault.ReadFault.TheVariants as read_fault
 use Rattle.blif_models.specs.Reader.{read_models}
 use Rattle.blif_read.specs.Parts.{kiss_lines, lines_beside}
 
@@ -74,7 +74,7 @@ unfoldable pub read_lines : Option (List Gate) → List Entry → Result Spec Bl
 read_lines library lines = spec_with (kiss_lines lines) (read_models library (lines_beside lines))
 
 -- what a reader answers, compared with what it should; want of memory is always allowed
-abbrev pub Reads : Result Spec ReadFault → Result Spec BlifFault → Type 0
+abbrev pub Reads : Result Spec (ReadFault BlifFault) → Result Spec BlifFault → Type 0
 Reads (Ok read) should = should ≡ Ok read
 Reads (Err (read_fault.Fault fault)) should = should ≡ Err fault
 Reads (Err read_fault.Memory) should = Unit {0}

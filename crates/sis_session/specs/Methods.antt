@@ -13,8 +13,9 @@ use Rattle.sis_outside.specs.declared.sink.PutFault.TheVariants as put
 use Rattle.circuit_model.specs.declared.circuit.Circuit.{Circuit}
 use Rattle.circuit_model.specs.declared.machine.Spec.{Spec}
 use Rattle.blif_read.specs.Reader.{read_lines}
-use Rattle.blif_lines.specs.declared.fault.ReadFault.{ReadFault}
-use Rattle.blif_lines.specs.declared.fault.ReadFault.TheVariants as reading
+use Rattle.blif_lines.specs.declared.fault.BlifFault.{BlifFault}
+use Rattle.sis_text.specs.declared.read_fault.ReadFault.{ReadFault}
+use Rattle.sis_text.specs.declared.read_fault.ReadFault.TheVariants as reading
 use Rattle.sis_script.specs.declared.command.Change.{Change}
 use Rattle.circuit_model.specs.declared.machine.Machine.{Machine}
 use Rattle.state_code.specs.Codes.{codes_of}
@@ -85,7 +86,7 @@ HasToldPut goes (Ok text) old answer new = HasPut goes text.items old answer new
 HasToldPut goes (Err why) old answer new = (answer ≡ Err why) × (new ≡ old)
 
 -- the effect of reading a circuit or a machine from bytes, by the current library
-abbrev pub HasRead : List ℕ → Held → Result (Unit {0}) ReadFault → Held → Type 0
+abbrev pub HasRead : List ℕ → Held → Result (Unit {0}) (ReadFault BlifFault) → Held → Type 0
 HasRead bytes old (Ok done) new = (read : Spec) × (read_lines old.library (entries_of bytes) ≡ Ok read) × (new ≡ with_spec old read)
 HasRead bytes old (Err (reading.Fault why)) new = (read_lines old.library (entries_of bytes) ≡ Err why) × (new ≡ old)
 HasRead bytes old (Err reading.Memory) new = new ≡ old

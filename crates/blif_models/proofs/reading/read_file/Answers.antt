@@ -1,6 +1,6 @@
 use Rattle.std.proofs.Common.{Err, [], sym, option_copied}
 use Rattle.std.proofs.lemmas.Result.{err_from_is_err_and}
-use Rattle.blif_lines.specs.declared.fault.ReadFault.TheVariants.{Fault}
+use Rattle.sis_text.specs.declared.read_fault.ReadFault.TheVariants.{Fault}
 use Rattle.blif_models.specs.Reader.{file_fault, unknown_model, read_first}
 use Rattle.blif_models.specs.Reading.{first_in}
 use Rattle.sis_base.specs.declared.whole.Whole.{Whole}

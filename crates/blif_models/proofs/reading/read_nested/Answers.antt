@@ -1,5 +1,5 @@
 use Rattle.std.proofs.Common.{[], ◌∷◌, sym, ◌∙◌, option_copied}
-use Rattle.blif_lines.specs.declared.fault.ReadFault.TheVariants.{Fault}
+use Rattle.sis_text.specs.declared.read_fault.ReadFault.TheVariants.{Fault}
 use Rattle.blif_lines.specs.Lines.{first_of}
 use Rattle.blif_models.specs.Reading.{nesting_fault, sides_fault, made_fault}
 use Rattle.blif_models.proofs.FirstRead.{in_parts, first_read, second_read}
