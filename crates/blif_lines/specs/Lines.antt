@@ -202,7 +202,9 @@ growing width rows = record { width = width; mark = first_mark width rows; count
 -- the table under a heading with these rows: rows belong to a `.names` line
 abbrev pub table_under : Option Entry → List (List ℕ) → Option Growing
 table_under None rows = None
-table_under (Some line) rows = if is_table_kind (kind_of line) then Some (growing (length (other_words line.words) - 1) rows) else None
+table_under (Some line) rows =
+    if is_table_kind (kind_of line) then Some (growing (length (other_words line.words) - 1) rows)
+    else None
 
 -- what the lines before a line tell, newest first
 abbrev pub told_before : List Entry → Before
@@ -234,7 +236,8 @@ fault_under (Some table) number bytes = table_row_fault table number bytes
 
 -- what is wrong with bytes as a row, by the part that it is in too
 unfoldable pub row_fault : Part → Option Growing → ℕ → List ℕ → Option BlifFault
-row_fault place table number bytes = first_of (when (is_behind place) (UnknownWord number) ∷ fault_under table number bytes ∷ [])
+row_fault place table number bytes = first_of
+    (when (is_behind place) (UnknownWord number) ∷ fault_under table number bytes ∷ [])
 
 -- what is wrong with the words after the first of a `.model` line; `begun` says whether a line
 -- precedes it: where a file has several models, a `.model` line begins the lines of the next one
@@ -305,22 +308,31 @@ place_fault place number = when (not (is_in_model place)) (UnknownWord number)
 
 -- what is wrong with a line, by its kind and what the lines before it tell: its number, its words
 -- after the first, all words
-abbrev pub fault_as : Option (List TheGate) → Keyword → Before → ℕ → List (List ℕ) → List (List ℕ) → Option BlifFault
+abbrev pub fault_as :
+    Option (List TheGate) → Keyword → Before → ℕ → List (List ℕ) → List (List ℕ)
+    → Option BlifFault
 fault_as library Model before number words whole = model_fault before.begun number words
 fault_as library Inputs before number words whole = ports_fault before.place number words
 fault_as library Outputs before number words whole = ports_fault before.place number words
 fault_as library Clock before number words whole = clock_fault before.place number words
-fault_as library Names before number words whole = names_fault before.place before.nodes number words
-fault_as library Latch before number words whole = latch_fault before.place before.nodes number words
-fault_as library Gate before number words whole = gate_fault library before.place before.nodes number words
+fault_as library Names before number words whole =
+    names_fault before.place before.nodes number words
+fault_as library Latch before number words whole =
+    latch_fault before.place before.nodes number words
+fault_as library Gate before number words whole =
+    gate_fault library before.place before.nodes number words
 fault_as library Subckt before number words whole = subckt_fault before.place number words
-fault_as library StartKiss before number words whole = start_fault before.place before.has_kiss number
+fault_as library StartKiss before number words whole =
+    start_fault before.place before.has_kiss number
 fault_as library DontCare before number words whole = place_fault before.place number
 fault_as library End before number words whole = None
 fault_as library Skipped before number words whole = place_fault before.place number
-fault_as library Row before number words whole = row_fault before.place before.table number (joined whole)
+fault_as library Row before number words whole =
+    row_fault before.place before.table number (joined whole)
 fault_as library Other before number words whole = Some (UnknownWord number)
 
 -- what is wrong with a line, given the lines before it
 unfoldable pub line_fault : Option (List TheGate) → List Entry → Entry → Option BlifFault
-line_fault library back line = fault_as library (kind_of line) (told_before back) line.number (other_words line.words) line.words
+line_fault library back line =
+    fault_as library (kind_of line) (told_before back) line.number (other_words line.words)
+    line.words

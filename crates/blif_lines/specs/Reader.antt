@@ -370,12 +370,14 @@ leaves_of told = told.inputs ++ map (λ (latch : TheLatch). latch.output) told.l
 -- that is driven
 unfoldable pub timing_fault : Option ℕ → Option Timing → List (List ℕ) → Option BlifFault
 timing_fault mixed timing drives = first_of
-    (option_map (λ number. MixedClock number) mixed ∷ option_map (λ name. GatedClock name) (find (has drives) (control_of timing)) ∷ [])
+    (option_map (λ number. MixedClock number) mixed
+    ∷ option_map (λ name. GatedClock name) (find (has drives) (control_of timing)) ∷ [])
 
 -- what is wrong with what is listed: a port that is listed twice, the timing of the latches
 unfoldable pub listed_fault : Told → Option BlifFault
 listed_fault told = first_of
-    (option_map (λ name. NameTwice name) (first_listed_twice told.listed_inputs told.listed_outputs told.ports)
+    (option_map (λ name. NameTwice name)
+    (first_listed_twice told.listed_inputs told.listed_outputs told.ports)
     ∷ timing_fault told.mixed told.timing told.drives ∷ [])
 
 -- what is wrong with the drivers, by the inputs and the driven and read signals: a signal driven
@@ -395,7 +397,9 @@ tables_fault leaves dont_care tables = first_of
 -- what is wrong with the whole
 unfoldable pub whole_fault : Told → Option BlifFault
 whole_fault told = first_of
-    (listed_fault told ∷ drivers_fault told.inputs told.drives told.reads ∷ tables_fault (leaves_of told) told.dont_care told.tables ∷ [])
+    (listed_fault told
+    ∷ drivers_fault told.inputs told.drives told.reads
+    ∷ tables_fault (leaves_of told) told.dont_care told.tables ∷ [])
 
 -- the circuit of what is told: each table of the model has each of its inputs once, those of the
 -- don't-care part are as they are written
@@ -455,7 +459,8 @@ first_fault (Some fault) read = Err fault
 -- what a model's logical lines are read as, with a library if there is one: the first fault of a
 -- line, then one of the whole, otherwise the circuit, or the head of a machine
 unfoldable pub read_lines : Option (List TheGate) → List Entry → Result Content BlifFault
-read_lines library lines = first_fault (first_line_fault library [] lines) (read_told (told_by library lines))
+read_lines library lines =
+    first_fault (first_line_fault library [] lines) (read_told (told_by library lines))
 
 -- what a reader answers, compared with what it should; want of memory is always allowed
 abbrev pub Reads : Result Content (ReadFault BlifFault) → Result Content BlifFault → Type 0

@@ -185,7 +185,9 @@ with_line library kind draft number words whole = record {
 
 -- a line of a kind added to what is kept, or its fault
 unfoldable pub take_as : Option (List TheGate) → Keyword → Draft → ℕ → List (List ℕ) → List (List ℕ) → Result Draft BlifFault
-take_as library kind draft number words whole = unless (fault_as library kind (before_of draft) number words whole) (with_line library kind draft number words whole)
+take_as library kind draft number words whole =
+    unless (fault_as library kind (before_of draft) number words whole)
+    (with_line library kind draft number words whole)
 
 -- the draft with one more line
 unfoldable pub take_entry : Option (List TheGate) → Draft → Entry → Result Draft BlifFault
@@ -290,12 +292,14 @@ settled_told draft = record (told_of draft) {
 -- what is wrong with the drivers and the tables of a draft that is settled
 unfoldable pub settled_fault : Draft → Option BlifFault
 settled_fault draft = first_of
-    (drivers_fault draft.inputs draft.drives draft.reads ∷ tables_fault (leaves_of (settled_told draft)) draft.tables draft.model_tables ∷ [])
+    (drivers_fault draft.inputs draft.drives draft.reads
+    ∷ tables_fault (leaves_of (settled_told draft)) draft.tables draft.model_tables ∷ [])
 
 -- the tables drive different signals if no port occurs twice and no signal is driven twice
 abbrev pub HasApartTables : Told → Type 0
 HasApartTables told =
-    first_listed_twice told.listed_inputs told.listed_outputs told.ports ≡ None → first_again told.inputs told.drives ≡ None
+    first_listed_twice told.listed_inputs told.listed_outputs told.ports ≡ None
+    → first_again told.inputs told.drives ≡ None
     → all_different (outputs_of told.tables) ≡ true
 
 -- what is read of a draft after the last line

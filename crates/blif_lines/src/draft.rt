@@ -4,8 +4,8 @@
 //! latches and tables of the lines so far, the signals that they drive and read, and the table
 //! whose rows are being read. `take` adds one line or returns its fault, exactly as `take_entry` of
 //! `specs/Steps.antt`; proofs of this crate say that a draft tells what its lines tell, by which
-//! `specs/Lines.antt` and `specs/Reader.antt` define all faults and what is read. After an error the
-//! draft has no meaning.
+//! `specs/Lines.antt` and `specs/Reader.antt` define all faults and what is read. After an error
+//! the draft has no meaning.
 
 ghost use Rattle.std.specs.Prelude.{◌≡◌, ℕ, Option, List, ◌<◌, [], length, option_copied, IfOk, OnOk, OnErr, IfSome};
 ghost use Rattle.sis_text.specs.Entries.{Entry};

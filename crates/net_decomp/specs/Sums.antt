@@ -31,7 +31,8 @@ abbrev pub shifted : ℕ → Literal → Literal
 shifted from literal = record { place = literal.place - from; bit = literal.bit }
 
 abbrev pub shifted_rows : ℕ → ℕ → List Literal → List (List (Option Bool))
-shifted_rows width from literals = map (λ (literal : Literal). single_row width (shifted from literal)) literals
+shifted_rows width from literals =
+    map (λ (literal : Literal). single_row width (shifted from literal)) literals
 
 -- the table of single literals over names, in its normal form
 abbrev pub sum_table : List (List ℕ) → List ℕ → Bool → List Literal → Table

@@ -24,27 +24,37 @@ use Rattle.sis_base.specs.declared.limits.TheConstants.{MAX_INPUTS}
 -- what all tables lose together; none if one of them would have too many inputs
 abbrev pub IsLostIn : List Table → List ℕ → NamedCover → Option ℕ → Type 0
 IsLostIn tables name cover None = AllByRecursion (IsNarrow name cover) tables → ⊥
-IsLostIn tables name cover (Some lost) = (lost ≡ sum_by (lost_by name cover) tables) × AllByRecursion (IsNarrow name cover) tables
+IsLostIn tables name cover (Some lost) =
+    (lost ≡ sum_by (lost_by name cover) tables) × AllByRecursion (IsNarrow name cover) tables
 
 -- what the tables at some indices lose by one cube is told by rows, and by what the tables at other
 -- indices lose
-pub record AreTold (placed : Placed) (places : List ℕ) (rows : List Cube) (others : List ℕ) : Type 0 where
-  pub lost : (name : List ℕ) → IsNewName (circuit_of placed) name → (cube : Cube) → is_apart cube ≡ true → 1 ≤ length cube
-      → lost_at name (cube ∷ []) placed.slots places + many (has_all cube) rows ≡ many (has_all cube) rows * length cube + lost_at name (cube ∷ []) placed.slots others
-  pub narrow : (name : List ℕ) → IsNewName (circuit_of placed) name → (cover : NamedCover) → AllByRecursion (λ at. IsNarrowIn name cover (table_at placed.slots at)) others
+pub record AreTold (placed : Placed) (places : List ℕ) (rows : List Cube)
+    (others : List ℕ) : Type 0 where
+  pub lost : (name : List ℕ) → IsNewName (circuit_of placed) name → (cube : Cube)
+      → is_apart cube ≡ true → 1 ≤ length cube
+      → lost_at name (cube ∷ []) placed.slots places + many (has_all cube) rows
+      ≡ many (has_all cube) rows * length cube + lost_at name (cube ∷ []) placed.slots others
+  pub narrow : (name : List ℕ) → IsNewName (circuit_of placed) name → (cover : NamedCover)
+      → AllByRecursion (λ at. IsNarrowIn name cover (table_at placed.slots at)) others
       → AllByRecursion (λ at. IsNarrowIn name cover (table_at placed.slots at)) places
 
 -- the table at an index is added: its rows are, or the index is
 abbrev pub IsAdded : Table → ℕ → List Cube → List ℕ → List Cube → List ℕ → Type 0
 IsAdded table place rows others new_rows new_others =
-    (AreOnce (map places_of table.rows) × (length table.inputs < MAX_INPUTS) × (new_rows ≡ rows ++ cubes_of table) × (new_others ≡ others)) ⊎ ((new_rows ≡ rows) × (new_others ≡ others ++ place ∷ []))
+    (AreOnce (map places_of table.rows) × (length table.inputs < MAX_INPUTS)
+    × (new_rows ≡ rows ++ cubes_of table) × (new_others ≡ others))
+    ⊎ ((new_rows ≡ rows) × (new_others ≡ others ++ place ∷ []))
 
 -- indices include those of all tables that read one of some names
 abbrev pub IncludeReaders : List (Option Table) → List (List ℕ) → List ℕ → Type 0
-IncludeReaders slots names places = (at : ℕ) (table : Table) (name : List ℕ) → table_at slots at ≡ Some table → has table.inputs name ≡ true → has names name ≡ true → is_in places at ≡ true
+IncludeReaders slots names places =
+    (at : ℕ) (table : Table) (name : List ℕ) → table_at slots at ≡ Some table
+    → has table.inputs name ≡ true → has names name ≡ true → is_in places at ≡ true
 
 -- rows tell it of all tables that read one of some names
-pub record Indexes (placed : Placed) (names : List (List ℕ)) (rows : List Cube) (others : List ℕ) : Type 0 where
+pub record Indexes (placed : Placed) (names : List (List ℕ)) (rows : List Cube)
+    (others : List ℕ) : Type 0 where
   pub places : List ℕ
   pub once : AreOnce places
   pub all : IncludeReaders placed.slots names places

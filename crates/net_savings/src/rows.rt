@@ -4,7 +4,8 @@
 //! Optimization System" (1987): the value of a divisor. Each row that contains a cube loses the
 //! cube's literals and gains one. So what one cube saves is found by marks of rows, and only those
 //! tables are looked at whose rows do not tell it. This is done for cubes of names that many tables
-//! or many rows read; which names they are no clause says. Callers rely on `IsIndex` of `specs/Indexed.antt`.
+//! or many rows read; which names they are no clause says. Callers rely on `IsIndex` of
+//! `specs/Indexed.antt`.
 
 ghost use Rattle.std.specs.Prelude.{◌≡◌, ◌++◌, ◌∷◌, [], ℕ, List, IfOk, OnOk};
 ghost use Rattle.std.specs.List.{list_all};
