@@ -26,6 +26,7 @@ use circuit_model::Name;
 use cover_names::{Cube, Literal};
 use cube_cover::Row;
 use indexmap::IndexSet;
+use net_candidates::Rule;
 use net_core::Entry;
 use net_work::WorkingNetwork;
 use sis_base::Copied;
@@ -182,13 +183,18 @@ fn are_spread<R: Row>(
 }
 
 // Inputs of the tables at some indices that many tables or many rows read; none if an index of
-// them is not worth its cost. No clause says which names they are.
+// them is not worth its cost, as for kernels, which have two cubes or more. No clause says which
+// names they are.
 fn common_inputs<R: Row>(
     alloc: Global,
     work: &WorkingNetwork<R>,
+    rule: Rule,
     places: &[usize],
 ) -> Result<IndexSet<Name>, AllocError> {
     let mut names = IndexSet::new(alloc);
+    if let Rule::Gkx = rule {
+        return Ok(names);
+    }
     let mut cubes: usize = 0;
     for place in places {
         cubes = cubes.saturating_add(add_inputs(alloc, work, *place, &mut names)?);
@@ -210,12 +216,13 @@ impl RowIndex {
     pub(crate) fn of_readers<R: Row>(
         alloc: Global,
         work: &WorkingNetwork<R>,
+        rule: Rule,
         places: &[usize],
     ) -> Result<RowIndex, AllocError>
         requires { IsSound (circuit_of work.now) }
         ensures { IfOk result (IsIndex work.now) }
     {
-        let names = common_inputs(alloc, work, places)?;
+        let names = common_inputs(alloc, work, rule, places)?;
         let readers = readers_of(alloc, work, names.as_slice())?;
         let (rows, others) = rows_at(alloc, work, readers.as_slice())?;
         let rows = RowMarks::by_names(alloc, rows, names.as_slice())?;
