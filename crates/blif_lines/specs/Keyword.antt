@@ -8,8 +8,8 @@ use Rattle.line_words.specs.LineWords.{first_word}
 use Rattle.blif_lines.specs.declared.keyword.Keyword.{Keyword}
 use Rattle.blif_lines.specs.declared.keyword.Keyword.TheVariants.{Model, Inputs, Outputs, Clock, Names, Latch, Gate, Subckt, StartKiss, DontCare, End, Skipped, Row, Other}
 
--- the words whose lines are skipped: they describe areas, delays, loads and events, none of which
--- is kept
+-- the words whose lines are skipped: they describe areas, delays, loads, events, the order of
+-- latches and state codes, none of which is kept
 unfoldable pub skipped_words : List (List ℕ)
 skipped_words =
     codes ".latch_order" ∷ codes ".code" ∷ codes ".area" ∷ codes ".delay" ∷ codes ".wire_load_slope" ∷ codes ".wire"

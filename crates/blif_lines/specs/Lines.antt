@@ -2,8 +2,8 @@
 -- appendix of the SIS report (UCB/ERL M92/41): `.model`, `.inputs`, `.outputs`, `.clock`, `.names`
 -- with its rows, `.latch`, `.gate`, `.subckt`, `.start_kiss`, `.exdc` followed by the don't-care
 -- part, and `.end`. The order of the causes and the limits are the project's own. The lines of a
--- KISS2 part are not among these lines, except the one that begins it; nor are those of another
--- model. The lines before a line are given newest first.
+-- KISS2 part are not among these lines, except the one that begins it; lines of another model are
+-- only where they stand in place of an instance. The lines before a line are given newest first.
 use Rattle.std.specs.Prelude.{ℕ, ◌+◌, ◌-◌, Bool, true, false, not, ◌&&◌, ◌||◌, ◌==◌, nat_le, nat_lt, Option, Some, None, Result, Ok, Err, List, [], ◌∷◌, map, reverse, length, take, drop, find, flat_map, take_while, count_by, codes, bytes_eq, slice_index, if◌then◌else◌}
 use Rattle.std.specs.List.{list_all, list_any}
 use Rattle.std.specs.Option.{option_map}

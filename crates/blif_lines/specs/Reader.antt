@@ -1,8 +1,9 @@
 -- What a model's logical lines are read as: the first fault, or the circuit that they describe, or
 -- the head of a machine. Source: BLIF appendix of the SIS report (UCB/ERL M92/41): a model is its
 -- ports, clocks, latches and tables; several port lines add up, and ports without a line are found;
--- tables may come in any order; each signal has one driver, tables form no cycle, and all latches
--- share one clock; tables after `.exdc` are the don't-care part. A model with a KISS2 part and
+-- tables may come in any order; each signal has one driver, and tables form no cycle; tables after
+-- `.exdc` are the don't-care part. That all latches share one clock, and the order of the causes,
+-- are the project's own. A model with a KISS2 part and
 -- without a table, a latch, a gate or a `.subckt` line of its own is a machine; the lines of that
 -- part are not among these lines. A `.subckt` line says nothing more of the model here: where a
 -- file has several models, the lines of an instance stand in its place. What is wrong with the
@@ -227,7 +228,7 @@ abbrev pub first_timing : List Entry → Option Timing
 first_timing [] = None
 first_timing (line ∷ lines) = timing_at line
 
--- the timing that all latches share: that of the first
+-- the timing of the first latch, which all latches share unless one is mixed
 unfoldable pub timing_in : List Entry → Option Timing
 timing_in lines = first_timing (latch_lines lines)
 
@@ -260,7 +261,7 @@ mixed_clock lines =
 abbrev pub row_of : ℕ → List ℕ → List Tri
 row_of width bytes = map character_of (take width bytes)
 
--- the phase that all rows of a table share: that of the first; 1 without rows
+-- the phase of a table: that of its first row, which all share; 1 without rows
 abbrev pub phase_by : ℕ → List (List ℕ) → Bool
 phase_by width [] = true
 phase_by width (row ∷ rows) = output_character width row == 49
@@ -373,7 +374,7 @@ timing_fault mixed timing drives = first_of
     (option_map (λ number. MixedClock number) mixed
     ∷ option_map (λ name. GatedClock name) (find (has drives) (control_of timing)) ∷ [])
 
--- what is wrong with what is listed: a port that is listed twice, the timing of the latches
+-- what is wrong before ports are found: a port that is listed twice, the timing of the latches
 unfoldable pub listed_fault : Told → Option BlifFault
 listed_fault told = first_of
     (option_map (λ name. NameTwice name)
@@ -437,7 +438,7 @@ head_of told = record {
 abbrev pub head_fault : Told → Option BlifFault
 head_fault told = option_map (λ name. NameTwice name) (first_listed_twice told.ports [] told.ports)
 
--- a fault of the whole, or what is read if there is none
+-- a fault, or what is read if there is none
 abbrev pub unless : {A : Type 0} → Option BlifFault → A → Result A BlifFault
 unless None read = Ok read
 unless (Some fault) read = Err fault
@@ -451,7 +452,7 @@ read_as false told = unless (whole_fault told) (content.Circuit (circuit_of told
 unfoldable pub read_told : Told → Result Content BlifFault
 read_told told = read_as (is_machine told) told
 
--- the first fault of a line, or what is read of the whole if there is none
+-- a fault, or what the rest is read as if there is none
 abbrev pub first_fault : {A : Type 0} → Option BlifFault → Result A BlifFault → Result A BlifFault
 first_fault None read = read
 first_fault (Some fault) read = Err fault

@@ -2,9 +2,10 @@
 -- tells. Source: BLIF appendix of the SIS report (UCB/ERL M92/41). Lines defines what is wrong with
 -- a line, by what the lines before it tell; Reader what a line means, and what is wrong with the
 -- whole and what is read of it, by what all lines tell. Here each list grows by what Reader says of
--- the line, and a draft tells what its lines tell (`before_of`, `told_of`), which a law says; so a
--- fault, a circuit and a head are defined once. Only clauses of private functions cite this module,
--- and those of blif_models, which takes lines one by one too.
+-- the line, and a draft tells what its lines tell (`before_of`, `told_of`), which proofs of this
+-- crate say; so a fault, a circuit and a head are defined once. No clause of a call that a program
+-- outside the readers makes cites this module: those of this crate's drafts do, and those of
+-- blif_models, which takes lines one by one too.
 use Rattle.std.specs.Prelude.{◌≡◌, ℕ, ◌+◌, Bool, true, false, not, ◌&&◌, ◌||◌, ◌==◌, Option, Some, None, Result, Ok, Err, List, [], ◌∷◌, ◌++◌, length, codes, if◌then◌else◌}
 use Rattle.std.specs.Option.{option_map}
 use Rattle.circuit_model.specs.Names.{all_different}
@@ -66,7 +67,7 @@ unfoldable pub tables_with : List Table → Option Reading → List Table
 tables_with tables None = tables
 tables_with tables (Some reading) = tables ++ reading.table ∷ []
 
--- the draft with the table that was being read added to the others
+-- the draft after a line that is not a row: the table that was being read is among the others
 unfoldable pub closed : Draft → Draft
 closed draft = record draft { begun = true; tables = tables_with draft.tables draft.reading; reading = None }
 
@@ -280,7 +281,7 @@ settled draft = record draft {
   reading = None;
 }
 
--- what a draft tells of the whole when it is settled
+-- what a draft tells of the whole when it is settled, but for the ports that lines list
 abbrev pub settled_told : Draft → Told
 settled_told draft = record (told_of draft) {
   inputs = draft.inputs;

@@ -24,7 +24,8 @@ pub enum LimitKind {
 pub enum BlifFault {
     /// A line whose first word begins with `.` and is not known; any line but `.end` after `.end`;
     /// in the don't-care part any line but those of tables, ports and the end; a second don't-care
-    /// or KISS2 part; among the lines of one model a `.model` line that is not the first.
+    /// or KISS2 part; a KISS2 part in a model that is not the first; among the lines of one model a
+    /// `.model` line that is not the first.
     UnknownWord(usize),
     /// `.model` with two words or more, `.names`, `.gate` or `.subckt` without one.
     BadArity(usize),

@@ -1,9 +1,9 @@
-//! The faults of a whole file whose lines are right by themselves.
+//! The faults of a whole model whose lines are right by themselves.
 //!
-//! Source: BLIF appendix of the SIS report (UCB/ERL M92/41): each signal has one driver, tables
-//! form no cycle, and all latches share one clock. The checks are in this order: ports listed
-//! twice, the timing of latches, drivers, the don't-care part, cycles. Each call returns exactly
-//! the fault that `specs/Reader.antt` defines by what is told, here by a draft. The search for
+//! Source: BLIF appendix of the SIS report (UCB/ERL M92/41): each signal has one driver, and tables
+//! form no cycle. That all latches share one clock, and the order, are the project's own: ports
+//! listed twice, the timing of latches, drivers, the don't-care part, cycles. Each call returns
+//! exactly its part of `whole_fault` of `specs/Reader.antt`, by what a draft tells. The search for
 //! cycles requires that no two tables drive one signal, which the earlier checks give.
 
 ghost use Rattle.std.specs.Prelude.{◌≡◌, ◌++◌, true, None, map, find, option_copied, IfOk, OnOk};
@@ -83,7 +83,7 @@ fn timing_fault(
     Ok(None)
 }
 
-/// What is wrong with what the lines of a draft list: the first port that is listed twice,
+/// What is wrong with a draft before ports are found: the first port that is listed twice,
 /// otherwise the timing of its latches.
 #[tactic(auto, unfolding(crate::specs::Reader::listed_fault, crate::specs::Lines::first_of))]
 pub fn listed_fault(alloc: Global, draft: &Draft) -> Result<Option<BlifFault>, AllocError>

@@ -1,10 +1,11 @@
 //! What is wrong with a line: the first of its causes.
 //!
 //! Source: BLIF appendix of the SIS report (UCB/ERL M92/41); the order of the causes and the limits
-//! are the project's own (`specs/Lines.antt`). The calls get what the lines before said: the part
-//! of the file, the number of tables, latches and gates, and the table whose rows are being read.
-//! Each returns exactly the fault of the definition for its kind of line; for tables, latches and
-//! gates, none means that there is room for one more.
+//! are the project's own (`specs/Lines.antt`). The calls get what the lines before said: whether
+//! there is one, the part of the model, the number of tables, latches and gates, whether a KISS2
+//! part began, and the table whose rows are being read. Each returns exactly the fault of the
+//! definition for its kind of line, but for `.gate` lines (`gate_words`); for tables and latches,
+//! none means that there is room for one more.
 
 ghost use Rattle.std.specs.Prelude.{◌≡◌, ◌<◌, ◌==◌, Some, None, length, IfSome};
 ghost use Rattle.std.specs.Option.{option_map};

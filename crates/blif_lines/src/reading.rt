@@ -1,10 +1,10 @@
 //! Reads the lines of a model as a circuit, or as the head of a machine.
 //!
-//! Source: BLIF appendix of the SIS report (UCB/ERL M92/41). The lines are given in two runs, those
-//! before a KISS2 part and those after it. They are taken one by one into a draft, up to the first
-//! with a fault; then the whole is checked and settled. `read_lines` returns exactly the content or
-//! the first fault of `read_lines` in `specs/Reader.antt`; `reading_laws` says that it is sound if
-//! the words of the lines are words.
+//! Source: BLIF appendix of the SIS report (UCB/ERL M92/41). Lines are taken one by one into a
+//! draft, up to the first with a fault; `finish` then checks the whole, which for a circuit is
+//! settled between the checks. `read_lines` does both for lines before and after a KISS2 part: it
+//! returns the content or the first fault of `read_lines` in `specs/Reader.antt`, or `Memory`;
+//! `reading_laws` says that the content is sound if the words of the lines are words.
 
 ghost use Rattle.std.specs.Prelude.{◌++◌, true, false, map, option_copied};
 ghost use Rattle.sis_text.specs.Entries.{entry_at};

@@ -3,8 +3,8 @@
 //!
 //! Ports that no line lists are found, and the tables are separated into the model's and those of
 //! the don't-care part (`settled` of `specs/Steps.antt`). In the circuit each table of the model
-//! has each of its inputs once; the tables of the don't-care part stay as they are written. The
-//! lists of the draft are moved into the circuit, not copied.
+//! has each of its inputs once; the tables of the don't-care part stay as they are written. All
+//! lists of the draft but that of the model's tables are moved into the circuit, not copied.
 
 ghost use Rattle.std.specs.Prelude.{◌≡◌, map, IfOk, OnOk};
 ghost use Rattle.circuit_tables.specs.Folding.{folded};
