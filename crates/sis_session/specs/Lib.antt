@@ -4,5 +4,4 @@ pub mod Commands
 pub mod Replies
 pub mod Methods
 pub mod Keeping
-pub mod Texts
 pub mod Told

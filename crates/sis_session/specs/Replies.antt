@@ -6,7 +6,7 @@ use Rattle.circuit_model.specs.Counts.{literals_of}
 use Rattle.circuit_model.specs.Runs.{tri_of}
 use Rattle.circuit_model.specs.Text.{character}
 use Rattle.circuit_model.specs.declared.circuit.Circuit.{Circuit}
-use Rattle.sis_session.specs.Texts.{blif_text, kiss_text, library_text}
+use Rattle.fault_texts.specs.Texts.{blif_text, kiss_text, library_text}
 use Rattle.net_core.specs.Reads.{sizes_of}
 use Rattle.state_code.specs.declared.codes.Code.{Code}
 use Rattle.sis_text.specs.Decimals.{decimal_text}

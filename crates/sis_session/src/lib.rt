@@ -14,40 +14,31 @@
 //! (what they print of tables as algebra, by the lines of `factors` and `kernels`,
 //! `specs/Told.antt`), `changing` (what they make of the network), `encoding` and `mapping` (what
 //! they make of the machine, and of the network by gates), `outside` (the calls on files and
-//! output), `texts` (what is printed), `refusal`. What is wrong with a file is described by `blif`,
-//! `kiss` and `library`: one text for each fault (`specs/Texts.antt`), in the project's own words.
+//! output), `texts` (what is printed; fault_texts describes what is wrong with a file), `refusal`.
 #![tactic(auto)]
 
 mod algebra;
-mod blif;
 mod changing;
 mod encoding;
 mod factors;
 mod generating;
 mod kernels;
-mod kiss;
 mod laws;
-mod library;
 mod mapping;
 mod outside;
 mod printing;
-mod putting;
 mod refusal;
 mod session;
 mod texts;
 
 pub use alg_kernel::KernelFault;
-pub use blif::put_blif_fault;
 pub use factors::{factor_line, factor_lines};
 pub use kernels::kernel_lines;
-pub use kiss::put_kiss_fault;
 pub use laws::{
     changes_have_one_outcome, commands_end_once, commands_have_one_plan, served_commands_are_done,
     steps_keep_refinement, what_is_held_is_written,
 };
-pub use library::put_library_fault;
 pub use outside::load;
-pub use putting::{put_three, put_two};
 pub use refusal::{Failed, Next, Refusal, StepFault};
 pub use session::{MAX_BYTES, MAX_DEPTH, Session};
 pub use texts::{Stats, error_text, refusal_text};

@@ -1,12 +1,12 @@
 //! The texts that the program prints: replies, and the lines of refusals and errors.
 //!
 //! Each text is here once and is promised byte for byte (`specs/Replies.antt`), so that a script
-//! may rely on what it reads. The texts of faults in files are in `blif`, `kiss` and `library`. A
-//! call that runs out of memory leaves the output as it was.
+//! may rely on what it reads. The texts of faults in files are those of fault_texts. A call that
+//! runs out of memory leaves the output as it was.
 
 ghost use Rattle.std.specs.Prelude.{◌≡◌, ◌++◌, flat_map, codes, decimal, IfOk, OnOk, OnErr};
 ghost use Rattle.sis_base.specs.Written.{spaced};
-ghost use Rattle.sis_session.specs.Texts.{blif_text, kiss_text, library_text};
+ghost use Rattle.fault_texts.specs.Texts.{blif_text, kiss_text, library_text};
 ghost use Rattle.sis_session.specs.Replies.{
   echo_line,
   error_line,
@@ -17,10 +17,11 @@ ghost use Rattle.sis_session.specs.Replies.{
   script_fault_text,
 };
 
-use crate::putting::cut_on_error;
 use crate::refusal::Refusal;
-use crate::{put_blif_fault, put_kiss_fault, put_library_fault, put_three, put_two};
 use blif_lines::BlifFault;
+use fault_texts::{
+    cut_on_error, put_blif_fault, put_kiss_fault, put_library_fault, put_three, put_two,
+};
 use genlib_format::LibFault;
 use kiss_format::KissFault;
 use net_core::Sizes;

@@ -2,7 +2,7 @@
 //! memory runs out, the output stays as it was.
 
 ghost use Rattle.std.specs.Prelude.{◌≡◌, ◌++◌, OnOk, OnErr, codes, decimal};
-ghost use Rattle.sis_session.specs.Texts.{kiss_limit_word, kiss_text};
+ghost use Rattle.fault_texts.specs.Texts.{kiss_limit_word, kiss_text};
 
 use crate::putting::{put_limit, put_line, put_two};
 use kiss_format::{KissFault, LimitKind};

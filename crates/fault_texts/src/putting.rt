@@ -2,12 +2,12 @@
 //! out of memory leaves the output as it was.
 
 ghost use Rattle.std.specs.Prelude.{◌≡◌, ◌++◌, take, OnOk, OnErr};
-ghost use Rattle.sis_session.specs.Texts.{limit_text, line_text};
+ghost use Rattle.fault_texts.specs.Texts.{limit_text, line_text};
 
 use std::alloc::{AllocError, Global};
 
 /// The answer of an append; if that is an error, the output is cut back to its first `len` bytes.
-pub(crate) fn cut_on_error(
+pub fn cut_on_error(
     out: &mut Vec<u8>,
     len: usize,
     put: Result<(), AllocError>,

@@ -2,7 +2,7 @@
 //! If memory runs out, the output stays as it was.
 
 ghost use Rattle.std.specs.Prelude.{◌≡◌, ◌++◌, OnOk, OnErr};
-ghost use Rattle.sis_session.specs.Texts.{library_limit_word, library_text};
+ghost use Rattle.fault_texts.specs.Texts.{library_limit_word, library_text};
 
 use crate::putting::{put_limit, put_line, put_three, put_two};
 use genlib_format::{LibFault, LimitKind};

@@ -2,7 +2,7 @@
 //! memory runs out, the output stays as it was.
 
 ghost use Rattle.std.specs.Prelude.{◌≡◌, ◌++◌, OnOk, OnErr};
-ghost use Rattle.sis_session.specs.Texts.{blif_limit_word, blif_text};
+ghost use Rattle.fault_texts.specs.Texts.{blif_limit_word, blif_text};
 
 use crate::kiss::put_kiss_fault;
 use crate::putting::{put_limit, put_line, put_two};
