@@ -1,7 +1,7 @@
 -- The reader's steps, taken one after the other, come to what Reader says of all lines: a field of
 -- the draft, followed by what the lines ahead add to it, is the same before a line and after it.
 
-use Rattle.std.specs.Prelude.{◌≡◌, ℕ, ◌+◌, ◌-◌, ◌==◌, nat_eq, length, drop, Bool, true, false, not, ◌&&◌, ◌||◌, cond, find, Option, Some, None, Result, List, [], ◌∷◌, ◌++◌, map, reverse, take_while, codes, if◌then◌else◌}
+use Rattle.std.specs.Prelude.{◌≡◌, ℕ, ◌+◌, ◌-◌, ◌==◌, nat_eq, length, drop, Bool, true, false, not, ◌&&◌, ◌||◌, cond, find, Option, Some, None, Result, List, [], ◌∷◌, ◌++◌, map, reverse, take_while, codes, unwrap_or, if◌then◌else◌}
 use Rattle.std.specs.Option.{option_or, option_map}
 use Rattle.std.proofs.Common.{refl, sym, ◌∙◌, ap, arith, eq-eqb, append_assoc}
 use Rattle.std.proofs.lemmas.List.{length-take-le, length-map, map-append, append-nil, reverse-append}
@@ -14,9 +14,9 @@ use Rattle.sis_text.specs.Entries.{Entry}
 use Rattle.line_words.specs.LineWords.{other_words}
 use Rattle.genlib_format.specs.declared.gate.Gate.{Gate as TheGate}
 use Rattle.blif_lines.specs.Keyword.{kind_of, is_row, is_row_kind}
-use Rattle.blif_lines.specs.Lines.{input_words, is_none, is_end_kind, is_ended, begins_part, has_part, begins_kiss, has_kiss, part_behind, is_latch, is_node_kind, nodes_in, joined, output_character, heading, rows_behind, is_table_kind, first_mark, growing, table_under, told_before, fault_as, line_fault}
-use Rattle.blif_lines.specs.Reader.{Told, told_by, first_line_fault, of_lines, model_lines, part_lines, listed_inputs, listed_outputs, listed_ports, listed_clocks, is_inputs_kind, is_outputs_kind, lists_inputs, lists_outputs, names_beside, inputs_in, outputs_in, ports_in, clocks_in, latch_output, gate_tables, driven_by, read_within, read_by, drives_in, reads_within, reads_in, latch_of, latches_by, latches_in, timing_of, is_latch_line, latch_lines, timing_at, first_timing, timing_in, same_timing, mixed_clock, row_of, phase_by, table_of, tables_by, tables_in, named_by, model_name, has_nodes, is_instance_kind, has_instances, unless, first_fault, read_lines, read_told}
-use Rattle.blif_lines.specs.Steps.{name_with, begun_by, reading_with, last_with, mark_for, width_of, known_mark, growing_of, before_of, with_row, row_behind, tables_with, place_at, place_of, with_more, timing_with, mixed_with, with_line, take_as, take_entry, take_entries, no_lines, model_of, part_of, listed_or, told_of, finished, finish}
+use Rattle.blif_lines.specs.Lines.{input_words, is_none, is_end_kind, is_ended, begins_part, has_part, begins_kiss, has_kiss, place_at, part_behind, is_latch, is_node_kind, nodes_in, joined, output_character, heading, rows_behind, is_table_kind, first_mark, growing, table_under, told_before, fault_as, line_fault}
+use Rattle.blif_lines.specs.Reader.{Told, told_by, first_line_fault, of_lines, model_lines, part_lines, listed_inputs, listed_outputs, listed_ports, listed_clocks, is_inputs_kind, is_outputs_kind, lists_inputs, lists_outputs, names_beside, listed_or, inputs_in, outputs_in, ports_in, clocks_in, latch_output, gate_tables, driven_by, read_within, read_by, drives_in, reads_within, reads_in, latch_of, latches_by, latches_in, timing_of, is_latch_line, latch_lines, timing_at, first_timing, timing_in, same_timing, mixed_clock, row_of, phase_by, table_of, tables_by, tables_in, named_by, model_name, has_nodes, is_instance_kind, has_instances, unless, first_fault, read_lines, read_told}
+use Rattle.blif_lines.specs.Steps.{name_with, begun_by, reading_with, last_with, width_of, growing_of, before_of, with_row, row_behind, tables_with, place_of, with_more, timing_with, mixed_with, with_line, take_as, take_entry, take_entries, no_lines, model_of, part_of, told_of, finished, finish}
 use Rattle.blif_lines.specs.declared.content.Content.{Content}
 use Rattle.blif_lines.specs.declared.keyword.Keyword.{Keyword}
 use Rattle.blif_lines.specs.declared.keyword.Keyword.TheVariants.{Model, Inputs, Outputs, Clock, Names, Latch, Gate, Subckt, StartKiss, DontCare, End, Skipped, Row, Other}
@@ -32,12 +32,9 @@ pub same_number : (n : ℕ) → nat_eq n n ≡ true
 same_number n = eq-eqb n n refl
 
 -- the table that is being read after some lines
-abbrev pub mark_by : ℕ → List (List ℕ) → ℕ
-mark_by width [] = 0
-mark_by width (row ∷ rows) = output_character width row
-
 abbrev pub read_with : List (List ℕ) → List (List ℕ) → Reading
-read_with words rows = record { table = table_of words rows; mark = mark_by (length words - 1) rows }
+read_with words rows =
+    record { table = table_of words rows; mark = first_mark (length words - 1) rows }
 
 abbrev pub read_if : Bool → List (List ℕ) → List (List ℕ) → Option Reading
 read_if true words rows = Some (read_with words rows)
@@ -58,12 +55,11 @@ unfolding table_of
 width_is words rows = inputs_long words
 
 -- the output character that a further row must have
-pub mark_is : (width : ℕ) (rows : List (List ℕ)) (bytes : List ℕ) → mark_for (map (row_of width) rows) (mark_by width rows) (output_character width bytes) ≡ mark_by width (rows ++ bytes ∷ [])
-unfolding mark_for
+pub mark_is : (width : ℕ) (rows : List (List ℕ)) (bytes : List ℕ) → Some (unwrap_or (first_mark width rows) (output_character width bytes)) ≡ first_mark width (rows ++ bytes ∷ [])
 mark_is width [] bytes = refl
 mark_is width (row ∷ rows) bytes = refl
 
-pub phase_is : (width : ℕ) (rows : List (List ℕ)) (bytes : List ℕ) → phase_by width (rows ++ bytes ∷ []) ≡ (mark_by width (rows ++ bytes ∷ []) == 49)
+pub phase_is : (width : ℕ) (rows : List (List ℕ)) (bytes : List ℕ) → phase_by width (rows ++ bytes ∷ []) ≡ (unwrap_or (first_mark width rows) (output_character width bytes) == 49)
 phase_is width [] bytes = refl
 phase_is width (row ∷ rows) bytes = refl
 
@@ -81,13 +77,9 @@ row_behind_is (Some line) rows bytes = by (is_table_kind (kind_of line))
     by false = refl
 
 -- what is known of that table
-mark_known : (width : ℕ) (rows : List (List ℕ)) → known_mark (map (row_of width) rows) (mark_by width rows) ≡ first_mark width rows
-mark_known width [] = refl
-mark_known width (row ∷ rows) = refl
-
 growing_read : (words rows : List (List ℕ)) → growing_of (read_with words rows) ≡ growing (length words - 1) rows
 unfolding table_of
-growing_read words rows = rw (width_is words rows, mark_known (length words - 1) rows, length-map rows (row_of (length words - 1))) refl
+growing_read words rows = rw (width_is words rows, length-map rows (row_of (length words - 1))) refl
 
 growing_is : (head : Option Entry) (rows : List (List ℕ)) → option_map growing_of (reading_from head rows) ≡ table_under head rows
 growing_is None rows = refl
@@ -140,7 +132,7 @@ pub reading_row : (line : Entry) (back : List Entry) → is_row line ≡ true �
 reading_row line back e =
     rw (heading_row line back e, rows_row line back e) (sym (row_behind_is (heading back) (rows_behind back) (joined line.words)))
 
-begun_is : (table : Bool) (words : List (List ℕ)) → (if table then Some (record { table = table_of words []; mark = 0 }) else None) ≡ read_if table words []
+begun_is : (table : Bool) (words : List (List ℕ)) → (if table then Some (record { table = table_of words []; mark = None }) else None) ≡ read_if table words []
 begun_is true words = refl
 begun_is false words = refl
 
@@ -724,7 +716,7 @@ pub finish_end : (library : Option (List TheGate)) (back : List Entry) (draft : 
 finish_end library back draft t = ap read_told (ends_told library back draft t draft.has_part refl)
 
 pub taken_entry : (library : Option (List TheGate)) (draft : Draft) (line : Entry) (fault : Option BlifFault) → fault_at library draft line ≡ fault → take_entry library draft line ≡ unless fault (next_at library draft line)
-unfolding take_entry take_as kind_of
+unfolding take_entry take_as
 taken_entry library draft line fault f = ap (λ one. unless one (next_at library draft line)) f
 
 pub fault_of_line : (library : Option (List TheGate)) (line : Entry) (back : List Entry) (draft : Draft) (fault : Option BlifFault) → fault_at library draft line ≡ fault → Tells back draft → line_fault library back line ≡ fault
@@ -807,7 +799,7 @@ pub inputs_all : (library : Option (List TheGate)) (lines : List Entry) → list
 unfolding inputs_in
 inputs_all library lines = by (lists_inputs lines) refl
   where
-    by : (b : Bool) → lists_inputs lines ≡ b → listed_or b (of_lines listed_inputs lines) (names_beside (drives_in library lines) (inner_in library lines)) ≡ (if b then of_lines listed_inputs lines else names_beside (drives_in library lines) (reads_within library lines))
+    by : (b : Bool) → lists_inputs lines ≡ b → listed_or b (of_lines listed_inputs lines) (names_beside (drives_in library lines) (inner_in library lines)) ≡ listed_or b (of_lines listed_inputs lines) (names_beside (drives_in library lines) (reads_within library lines))
     by true e = refl
     by false e = ap (names_beside (drives_in library lines)) (inner_all library lines e)
 
@@ -815,7 +807,7 @@ pub outputs_all : (library : Option (List TheGate)) (lines : List Entry) → lis
 unfolding outputs_in
 outputs_all library lines = by (lists_outputs lines) refl
   where
-    by : (b : Bool) → lists_outputs lines ≡ b → listed_or b (of_lines listed_outputs lines) (names_beside (reads_in library lines) (drives_in library lines)) ≡ (if b then of_lines listed_outputs lines else names_beside (reads_within library lines) (drives_in library lines))
+    by : (b : Bool) → lists_outputs lines ≡ b → listed_or b (of_lines listed_outputs lines) (names_beside (reads_in library lines) (drives_in library lines)) ≡ listed_or b (of_lines listed_outputs lines) (names_beside (reads_within library lines) (drives_in library lines))
     by true e = refl
     by false e = ap (λ names. names_beside names (drives_in library lines)) (reads_all library lines e)
 

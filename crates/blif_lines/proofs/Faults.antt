@@ -1,14 +1,13 @@
 -- What a line without a fault is not: causes that do not hold.
 
-use Rattle.std.specs.Prelude.{◌≡◌, ℕ, Bool, true, false, not, ◌||◌, nat_lt, length, Option, Some, None, List, [], ◌∷◌}
+use Rattle.std.specs.Prelude.{◌≡◌, ℕ, Bool, true, false, not, nat_lt, length, Option, Some, None, List, [], ◌∷◌}
 use Rattle.std.specs.Option.{option_map}
 use Rattle.std.proofs.Common.{refl}
 use Rattle.sis_text.specs.Entries.{Entry}
 use Rattle.line_words.specs.LineWords.{other_words}
 use Rattle.genlib_format.specs.declared.gate.Gate.{Gate}
 use Rattle.blif_gates.specs.GateLines.{signals_of}
-use Rattle.blif_lines.specs.Lines.{when, first_of, is_none, long_fault, one_too_many, has_part, is_in_model, is_latch, latch_names, subckt_names, model_fault, clock_fault, latch_fault, library_fault, gate_fault, subckt_fault, start_fault, place_fault}
-use Rattle.blif_lines.specs.Steps.{place_at}
+use Rattle.blif_lines.specs.Lines.{when, first_of, is_none, long_fault, one_too_many, has_part, place_at, is_in_model, is_latch, latch_names, subckt_names, model_fault, latch_fault, library_fault, gate_fault, subckt_fault, place_fault}
 use Rattle.blif_lines.specs.declared.part.Part.{Part}
 use Rattle.blif_lines.specs.declared.fault.BlifFault.{BlifFault}
 use Rattle.blif_lines.specs.declared.fault.BlifFault.TheVariants.{UnknownWord, BadArity, BadLatch}

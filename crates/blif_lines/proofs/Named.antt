@@ -19,9 +19,9 @@ use Rattle.line_words.specs.LineWords.{other_words, long_name}
 use Rattle.genlib_format.specs.declared.gate.Gate.{Gate as TheGate}
 use Rattle.blif_gates.specs.GateLines.{signals_of}
 use Rattle.blif_lines.specs.Heads.{listed_ports_of}
-use Rattle.blif_lines.specs.Lines.{when, input_words, last_word, long_fault, one_too_many, many_inputs, is_in_model, is_behind, is_latch, latch_names, is_none, model_fault, ports_fault, clock_fault, names_fault, latch_fault, fault_as, joined}
-use Rattle.blif_lines.specs.Reader.{named_by, table_of, latch_of, latch_input, latch_output, timing_of, names_beside, gate_tables, gate_inputs, listed_where, circuit_of, head_of, Told}
-use Rattle.blif_lines.specs.Steps.{with_row, row_behind, tables_with, closed, place_at, place_of, before_of, with_more, timing_with, with_line, no_lines, model_of, part_of, listed_or, told_of}
+use Rattle.blif_lines.specs.Lines.{when, place_at, input_words, last_word, long_fault, one_too_many, many_inputs, is_in_model, is_behind, is_latch, latch_names, is_none, model_fault, ports_fault, clock_fault, names_fault, latch_fault, fault_as, joined}
+use Rattle.blif_lines.specs.Reader.{named_by, table_of, latch_of, latch_input, latch_output, timing_of, names_beside, listed_or, gate_tables, gate_inputs, listed_where, circuit_of, head_of, Told}
+use Rattle.blif_lines.specs.Steps.{with_row, row_behind, tables_with, place_of, before_of, with_more, timing_with, with_line, no_lines, model_of, part_of, told_of}
 use Rattle.blif_lines.specs.declared.keyword.Keyword.{Keyword}
 use Rattle.blif_lines.specs.declared.keyword.Keyword.TheVariants.{Model, Inputs, Outputs, Clock, Names, Latch, Gate, Subckt, StartKiss, DontCare, End, Skipped, Row, Other}
 use Rattle.blif_lines.specs.declared.part.Part.{Part}

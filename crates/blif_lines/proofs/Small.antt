@@ -19,7 +19,7 @@ use Rattle.blif_gates.specs.GateLines.{read_gate}
 use Rattle.blif_lines.specs.Lines.{when, input_words, long_fault, one_too_many, many_inputs, is_in_model, is_behind, is_init, is_latch_kind, is_latch, latch_names, is_none, is_row_of, output_character, has_mark, table_row_fault, fault_under, row_fault, names_fault, latch_fault, fault_as, joined}
 use Rattle.blif_lines.specs.Libraries.{IsSoundLibrary}
 use Rattle.blif_lines.specs.Reader.{row_of, table_of, latch_of, init_of, gate_tables, circuit_of}
-use Rattle.blif_lines.specs.Steps.{width_of, known_mark, growing_of, before_of, with_row, row_behind, tables_with, closed, place_of, with_line, no_lines, model_of, part_of, told_of}
+use Rattle.blif_lines.specs.Steps.{width_of, growing_of, before_of, with_row, row_behind, tables_with, place_of, with_line, no_lines, model_of, part_of, told_of}
 use Rattle.blif_lines.specs.declared.keyword.Keyword.{Keyword}
 use Rattle.blif_lines.specs.declared.keyword.Keyword.TheVariants.{Model, Inputs, Outputs, Clock, Names, Latch, Gate, Subckt, StartKiss, DontCare, End, Skipped, Row, Other}
 use Rattle.blif_lines.specs.declared.part.Part.{Part}
@@ -139,7 +139,7 @@ some_rows (first ∷ rows) row e = cc
 
 abbrev pub row_causes : Reading → ℕ → List ℕ → List (Option BlifFault)
 row_causes reading number bytes =
-    when (not (has_mark (known_mark reading.table.rows reading.mark) (output_character (width_of reading) bytes))) (MixedPhase number)
+    when (not (has_mark reading.mark (output_character (width_of reading) bytes))) (MixedPhase number)
     ∷ when (nat_le MAX_ROWS (length reading.table.rows)) (Limit limit.Rows (MAX_ROWS + 1)) ∷ []
 
 pub shaped_row : (reading : Reading) (number : ℕ) (bytes : List ℕ) → table_row_fault (growing_of reading) number bytes ≡ None → IsShaped reading.table → IsShaped (with_row reading bytes).table
@@ -157,7 +157,7 @@ unfolding table_row_fault with_row
 good_row reading number bytes f s =
     let few : length reading.table.rows < MAX_ROWS = leb-false MAX_ROWS (length reading.table.rows) (not_when (nat_le MAX_ROWS (length reading.table.rows)) (Limit limit.Rows (MAX_ROWS + 1))
     (none_first (when (nat_le MAX_ROWS (length reading.table.rows)) (Limit limit.Rows (MAX_ROWS + 1))) []
-    (none_later (when (not (has_mark (known_mark reading.table.rows reading.mark) (output_character (width_of reading) bytes))) (MixedPhase number)) (when (nat_le MAX_ROWS (length reading.table.rows)) (Limit limit.Rows (MAX_ROWS + 1)) ∷ [])
+    (none_later (when (not (has_mark reading.mark (output_character (width_of reading) bytes))) (MixedPhase number)) (when (nat_le MAX_ROWS (length reading.table.rows)) (Limit limit.Rows (MAX_ROWS + 1)) ∷ [])
     (none_later (when (not (is_row_of (width_of reading) bytes)) (BadRow number)) (row_causes reading number bytes) f)))) in
     record {
       rows = omega (arith, length-append reading.table.rows (row_of (width_of reading) bytes ∷ []));

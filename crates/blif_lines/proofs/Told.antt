@@ -21,8 +21,8 @@ use Rattle.circuit_tables.specs.Folding.{folded}
 use Rattle.genlib_format.specs.declared.gate.Gate.{Gate as TheGate}
 use Rattle.blif_lines.specs.Heads.{listed_ports_of}
 use Rattle.blif_lines.specs.Lines.{first_of, is_latch, joined, fault_as}
-use Rattle.blif_lines.specs.Reader.{table_of, latch_of, latch_input, latch_output, timing_of, names_beside, gate_tables, gate_inputs, listed_where, circuit_of, whole_fault, head_of, head_fault, timing_fault, drivers_fault, tables_fault, listed_fault, leaves_of, Told}
-use Rattle.blif_lines.specs.Steps.{with_row, row_behind, tables_with, closed, place_of, before_of, with_more, timing_with, with_line, no_lines, model_of, listed_or, told_of, HasApartTables}
+use Rattle.blif_lines.specs.Reader.{table_of, latch_of, latch_input, latch_output, timing_of, names_beside, listed_or, gate_tables, gate_inputs, listed_where, circuit_of, whole_fault, head_of, head_fault, timing_fault, drivers_fault, tables_fault, signals_fault, listed_fault, leaves_of, Told}
+use Rattle.blif_lines.specs.Steps.{with_row, row_behind, tables_with, place_of, before_of, with_more, timing_with, with_line, no_lines, model_of, told_of, HasApartTables}
 use Rattle.blif_lines.specs.declared.keyword.Keyword.{Keyword}
 use Rattle.blif_lines.specs.declared.keyword.Keyword.TheVariants.{Model, Inputs, Outputs, Clock, Names, Latch, Gate, Subckt, StartKiss, DontCare, End, Skipped, Row, Other}
 use Rattle.blif_lines.specs.declared.fault.BlifFault.{BlifFault}
@@ -450,7 +450,7 @@ pub record IsRight (told : Told) : Type 0 where
   pub part : first_bad_part_name (leaves_of told) told.dont_care ≡ None
   pub acyclic : first_on_cycle told.tables ≡ None
 
-pub all_right : (a b c d e f g : Option BlifFault) → first_of (first_of (a ∷ first_of (b ∷ c ∷ []) ∷ []) ∷ first_of (d ∷ e ∷ []) ∷ first_of (f ∷ g ∷ []) ∷ []) ≡ None
+pub all_right : (a b c d e f g : Option BlifFault) → first_of (first_of (a ∷ first_of (b ∷ c ∷ []) ∷ []) ∷ first_of (first_of (d ∷ e ∷ []) ∷ first_of (f ∷ g ∷ []) ∷ []) ∷ []) ≡ None
     → (a ≡ None) × (c ≡ None) × (d ≡ None) × (e ≡ None) × (f ≡ None) × (g ≡ None)
 unfolding first_of
 all_right None None None None None None None h = (refl, refl, refl, refl, refl, refl)
@@ -463,7 +463,7 @@ all_right None None None None None (Some x) g h = absurd (cc)
 all_right None None None None None None (Some x) h = absurd (cc)
 
 pub right_kept : (told : Told) → whole_fault told ≡ None → IsRight told
-unfolding whole_fault listed_fault timing_fault drivers_fault tables_fault
+unfolding whole_fault listed_fault timing_fault signals_fault drivers_fault tables_fault
 right_kept told h =
     let r = all_right (option_map (λ name. NameTwice name) (first_listed_twice told.listed_inputs told.listed_outputs told.ports)) (option_map (λ number. MixedClock number) told.mixed)
     (option_map (λ name. GatedClock name) (find (has told.drives) (control_of told.timing))) (option_map (λ name. TwoDrivers name) (first_again told.inputs told.drives))

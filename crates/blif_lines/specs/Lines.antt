@@ -67,10 +67,15 @@ begins_part kind = false
 unfoldable pub has_part : List Entry → Bool
 has_part back = list_any (λ line. begins_part (kind_of line)) back
 
--- the part of a line, by the lines before it: the model itself, its don't-care part, or after the
--- end
+-- the part of a line, by whether there was an end and whether the don't-care part has begun: the
+-- model itself, its don't-care part, or after the end
+unfoldable pub place_at : Bool → Bool → Part
+place_at ended has_part =
+    if ended then part.Behind else (if has_part then part.DontCare else part.Model)
+
+-- the part of a line, by the lines before it
 unfoldable pub part_behind : List Entry → Part
-part_behind back = if is_ended back then part.Behind else (if has_part back then part.DontCare else part.Model)
+part_behind back = place_at (is_ended back) (has_part back)
 
 -- whether a kind is that of the line that begins a KISS2 part
 abbrev pub begins_kiss : Keyword → Bool

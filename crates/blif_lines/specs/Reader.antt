@@ -155,15 +155,24 @@ lists_outputs lines = list_any (λ line. is_outputs_kind (kind_of line)) lines
 unfoldable pub names_beside : List (List ℕ) → List (List ℕ) → List (List ℕ)
 names_beside others names = each_once (filter (λ name. not (has others name)) names)
 
+-- the ports that lines list; those that are found if no line lists any
+abbrev pub listed_or : Bool → List (List ℕ) → List (List ℕ) → List (List ℕ)
+listed_or true listed found = listed
+listed_or false listed found = found
+
 -- the inputs: those that lines list; without such a line the signals that tables, latches and gates
 -- read and nothing drives
 unfoldable pub inputs_in : Option (List TheGate) → List Entry → List (List ℕ)
-inputs_in library lines = if lists_inputs lines then of_lines listed_inputs lines else names_beside (drives_in library lines) (reads_within library lines)
+inputs_in library lines =
+    listed_or (lists_inputs lines) (of_lines listed_inputs lines)
+    (names_beside (drives_in library lines) (reads_within library lines))
 
 -- the outputs: those that lines list; without such a line the signals that are driven and that no
 -- table, latch or gate reads
 unfoldable pub outputs_in : Option (List TheGate) → List Entry → List (List ℕ)
-outputs_in library lines = if lists_outputs lines then of_lines listed_outputs lines else names_beside (reads_within library lines) (drives_in library lines)
+outputs_in library lines =
+    listed_or (lists_outputs lines) (of_lines listed_outputs lines)
+    (names_beside (reads_within library lines) (drives_in library lines))
 
 -- the ports that lines list, in file order
 unfoldable pub ports_in : List Entry → List (List ℕ)
@@ -395,12 +404,15 @@ tables_fault leaves dont_care tables = first_of
     (option_map (λ name. BadExdc name) (first_bad_part_name leaves dont_care)
     ∷ option_map (λ name. Cycle name) (first_on_cycle tables) ∷ [])
 
+-- what is wrong with the signals once the ports are known: their drivers, then the tables
+unfoldable pub signals_fault : Told → Option BlifFault
+signals_fault told = first_of
+    (drivers_fault told.inputs told.drives told.reads
+    ∷ tables_fault (leaves_of told) told.dont_care told.tables ∷ [])
+
 -- what is wrong with the whole
 unfoldable pub whole_fault : Told → Option BlifFault
-whole_fault told = first_of
-    (listed_fault told
-    ∷ drivers_fault told.inputs told.drives told.reads
-    ∷ tables_fault (leaves_of told) told.dont_care told.tables ∷ [])
+whole_fault told = first_of (listed_fault told ∷ signals_fault told ∷ [])
 
 -- the circuit of what is told: each table of the model has each of its inputs once, those of the
 -- don't-care part are as they are written
@@ -438,10 +450,14 @@ head_of told = record {
 abbrev pub head_fault : Told → Option BlifFault
 head_fault told = option_map (λ name. NameTwice name) (first_listed_twice told.ports [] told.ports)
 
+-- a fault, or what the rest is read as if there is none
+abbrev pub first_fault : {A : Type 0} → Option BlifFault → Result A BlifFault → Result A BlifFault
+first_fault None read = read
+first_fault (Some fault) read = Err fault
+
 -- a fault, or what is read if there is none
 abbrev pub unless : {A : Type 0} → Option BlifFault → A → Result A BlifFault
-unless None read = Ok read
-unless (Some fault) read = Err fault
+unless fault read = first_fault fault (Ok read)
 
 -- what is read of what is told, as a machine or not
 abbrev pub read_as : Bool → Told → Result Content BlifFault
@@ -451,11 +467,6 @@ read_as false told = unless (whole_fault told) (content.Circuit (circuit_of told
 -- what is read of what lines tell that have no fault of their own
 unfoldable pub read_told : Told → Result Content BlifFault
 read_told told = read_as (is_machine told) told
-
--- a fault, or what the rest is read as if there is none
-abbrev pub first_fault : {A : Type 0} → Option BlifFault → Result A BlifFault → Result A BlifFault
-first_fault None read = read
-first_fault (Some fault) read = Err fault
 
 -- what a model's logical lines are read as, with a library if there is one: the first fault of a
 -- line, then one of the whole, otherwise the circuit, or the head of a machine

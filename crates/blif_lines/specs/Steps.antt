@@ -6,25 +6,23 @@
 -- crate say; so a fault, a circuit and a head are defined once. No clause of a call that a program
 -- outside the readers makes cites this module: those of this crate's drafts do, and those of
 -- blif_models, which takes lines one by one too.
-use Rattle.std.specs.Prelude.{◌≡◌, ℕ, ◌+◌, Bool, true, false, not, ◌&&◌, ◌||◌, ◌==◌, Option, Some, None, Result, Ok, Err, List, [], ◌∷◌, ◌++◌, length, codes, if◌then◌else◌}
+use Rattle.std.specs.Prelude.{◌≡◌, ℕ, ◌+◌, Bool, true, false, not, ◌&&◌, ◌||◌, ◌==◌, Option, Some, None, Result, Ok, Err, List, [], ◌∷◌, ◌++◌, length, codes, unwrap_or, if◌then◌else◌}
 use Rattle.std.specs.Option.{option_map}
 use Rattle.circuit_model.specs.Names.{all_different}
 use Rattle.circuit_model.specs.Soundness.{outputs_of}
-use Rattle.circuit_model.specs.declared.circuit.Tri.{Tri}
 use Rattle.circuit_model.specs.declared.circuit.Timing.{Timing}
 use Rattle.circuit_model.specs.declared.circuit.Table.{Table}
 use Rattle.circuit_model.specs.declared.circuit.Latch.{Latch as TheLatch}
 use Rattle.sis_text.specs.Entries.{Entry}
 use Rattle.circuit_checks.specs.NameChecks.{first_again, first_listed_twice}
-use Rattle.line_words.specs.LineWords.{first_word, other_words}
+use Rattle.line_words.specs.LineWords.{other_words}
 use Rattle.genlib_format.specs.declared.gate.Gate.{Gate as TheGate}
-use Rattle.blif_lines.specs.Keyword.{keyword_of, is_row_kind}
-use Rattle.blif_lines.specs.Lines.{Growing, Before, fault_as, is_table_kind, first_of, joined, output_character, is_none, is_end_kind, begins_part, begins_kiss, is_node_kind}
-use Rattle.blif_lines.specs.Reader.{Told, leaves_of, drivers_fault, tables_fault, read_told, row_of, named_by, table_of, latch_of, timing_of, same_timing, names_beside, gate_tables, unless, listed_inputs, listed_outputs, listed_ports, listed_clocks, driven_by, read_by, read_within, is_inputs_kind, is_outputs_kind, is_latch_line, is_instance_kind}
+use Rattle.blif_lines.specs.Keyword.{kind_of, is_row_kind}
+use Rattle.blif_lines.specs.Lines.{Growing, Before, place_at, fault_as, is_table_kind, joined, output_character, is_none, is_end_kind, begins_part, begins_kiss, is_node_kind}
+use Rattle.blif_lines.specs.Reader.{Told, read_told, row_of, named_by, table_of, latch_of, timing_of, same_timing, names_beside, listed_or, gate_tables, unless, listed_inputs, listed_outputs, listed_ports, listed_clocks, driven_by, read_by, read_within, is_inputs_kind, is_outputs_kind, is_latch_line, is_instance_kind}
 use Rattle.blif_lines.specs.declared.keyword.Keyword.{Keyword}
 use Rattle.blif_lines.specs.declared.keyword.Keyword.TheVariants.{Model, Gate}
 use Rattle.blif_lines.specs.declared.part.Part.{Part}
-use Rattle.blif_lines.specs.declared.part.Part.TheVariants as part
 use Rattle.blif_lines.specs.declared.fault.BlifFault.{BlifFault}
 use Rattle.sis_text.specs.declared.read_fault.ReadFault.{ReadFault}
 use Rattle.sis_text.specs.declared.read_fault.ReadFault.TheVariants as read_fault
@@ -32,18 +30,15 @@ use Rattle.blif_lines.specs.declared.content.Content.{Content}
 use Rattle.blif_lines.specs.declared.draft.Reading.{Reading}
 use Rattle.blif_lines.specs.declared.draft.Draft.{Draft}
 
--- the output character that all rows of a table have: that of its first row
-unfoldable pub mark_for : List (List Tri) → ℕ → ℕ → ℕ
-mark_for [] mark byte = byte
-mark_for (row ∷ rows) mark byte = mark
-
 -- the number of inputs of the table that is being read
 abbrev pub width_of : Reading → ℕ
 width_of reading = length reading.table.inputs
 
--- the output character of the table that is being read, if these bytes are its next row
+-- the output character of the table that is being read, if these bytes are its next row: that of
+-- its first row
 abbrev pub mark_with : Reading → List ℕ → ℕ
-mark_with reading bytes = mark_for reading.table.rows reading.mark (output_character (width_of reading) bytes)
+mark_with reading bytes =
+    unwrap_or reading.mark (output_character (width_of reading) bytes)
 
 -- the table that is being read, with one more row
 unfoldable pub with_row : Reading → List ℕ → Reading
@@ -54,7 +49,7 @@ with_row reading bytes = record {
     rows = reading.table.rows ++ row_of (width_of reading) bytes ∷ [];
     phase = mark_with reading bytes == 49;
   };
-  mark = mark_with reading bytes;
+  mark = Some (mark_with reading bytes);
 }
 
 -- the table that is being read with one more row
@@ -71,24 +66,15 @@ tables_with tables (Some reading) = tables ++ reading.table ∷ []
 unfoldable pub closed : Draft → Draft
 closed draft = record draft { begun = true; tables = tables_with draft.tables draft.reading; reading = None }
 
--- the part of the next line, by whether there was an end and whether the don't-care part has begun
-unfoldable pub place_at : Bool → Bool → Part
-place_at ended has_part = if ended then part.Behind else (if has_part then part.DontCare else part.Model)
-
 -- the part of the next line
 abbrev pub place_of : Draft → Part
 place_of draft = place_at draft.ended draft.has_part
-
--- the output character of a table that is being read, if it has a row
-abbrev pub known_mark : List (List Tri) → ℕ → Option ℕ
-known_mark [] mark = None
-known_mark (row ∷ rows) mark = Some mark
 
 -- what is known of the table that is being read
 abbrev pub growing_of : Reading → Growing
 growing_of reading = record {
   width = width_of reading;
-  mark = known_mark reading.table.rows reading.mark;
+  mark = reading.mark;
   count = length reading.table.rows;
 }
 
@@ -132,7 +118,7 @@ cells_with library kind tables words = tables
 -- the table that is read after a line, unless the line is a row: that of a `.names` line
 abbrev pub begun_by : Keyword → List (List ℕ) → Option Reading
 begun_by kind words =
-    if is_table_kind kind then Some (record { table = table_of words []; mark = 0 }) else None
+    if is_table_kind kind then Some (record { table = table_of words []; mark = None }) else None
 
 -- the table that is being read after a line
 abbrev pub reading_with : Keyword → Draft → List (List ℕ) → List (List ℕ) → Option Reading
@@ -192,10 +178,12 @@ take_as library kind draft number words whole =
 
 -- the draft with one more line
 unfoldable pub take_entry : Option (List TheGate) → Draft → Entry → Result Draft BlifFault
-take_entry library draft line = take_as library (keyword_of (first_word line.words)) draft line.number (other_words line.words) line.words
+take_entry library draft line =
+    take_as library (kind_of line) draft line.number (other_words line.words) line.words
 
 -- the next step after one without a fault; a fault stays
-abbrev pub onward : Result Draft BlifFault → (Draft → Result Draft BlifFault) → Result Draft BlifFault
+abbrev pub onward :
+    {A : Type 0} → Result Draft BlifFault → (Draft → Result A BlifFault) → Result A BlifFault
 onward (Ok draft) next = next draft
 onward (Err fault) next = Err fault
 
@@ -241,11 +229,6 @@ abbrev pub part_of : Bool → List Table → List Table
 part_of true tables = tables
 part_of false tables = []
 
--- the ports that are listed, or those that are found if no line lists any
-abbrev pub listed_or : Bool → List (List ℕ) → List (List ℕ) → List (List ℕ)
-listed_or true listed found = listed
-listed_or false listed found = found
-
 -- what a draft tells of the whole after the last line; ports that no line lists are found, the
 -- inputs among the signals that tables, latches and gates read before a line lists inputs
 abbrev pub told_of : Draft → Told
@@ -290,12 +273,6 @@ settled_told draft = record (told_of draft) {
   dont_care = draft.tables;
 }
 
--- what is wrong with the drivers and the tables of a draft that is settled
-unfoldable pub settled_fault : Draft → Option BlifFault
-settled_fault draft = first_of
-    (drivers_fault draft.inputs draft.drives draft.reads
-    ∷ tables_fault (leaves_of (settled_told draft)) draft.tables draft.model_tables ∷ [])
-
 -- the tables drive different signals if no port occurs twice and no signal is driven twice
 abbrev pub HasApartTables : Told → Type 0
 HasApartTables told =
@@ -309,8 +286,7 @@ finished draft = read_told (told_of draft)
 
 -- what is read after the last line, if no line had a fault
 abbrev pub finish : Result Draft BlifFault → Result Content BlifFault
-finish (Ok draft) = finished draft
-finish (Err fault) = Err fault
+finish taken = onward taken finished
 
 -- the answer and the result of a step, compared with what they should be; want of memory is always
 -- allowed

@@ -12,8 +12,9 @@ ghost use Rattle.sis_text.specs.Entries.{Entry};
 ghost use Rattle.line_words.specs.LineWords.{texts};
 ghost use Rattle.genlib_format.specs.declared.gate.Gate.{Gate as TheGate};
 ghost use Rattle.blif_lines.specs.declared.keyword.Keyword.{Keyword};
+ghost use Rattle.blif_lines.specs.Lines.{place_at};
 ghost use Rattle.blif_lines.specs.Reader.{named_by, table_of, is_machine, unless};
-ghost use Rattle.blif_lines.specs.Steps.{with_row, row_behind, tables_with, closed, place_at, place_of, take_as, take_entry, no_lines, told_of, Takes, TakesLine};
+ghost use Rattle.blif_lines.specs.Steps.{with_row, row_behind, tables_with, closed, place_of, take_as, take_entry, no_lines, told_of, Takes, TakesLine};
 
 use crate::fault::{BlifFault, ReadFault};
 use crate::gate_words::{add_gate_signals, gate_table};
@@ -24,7 +25,7 @@ use crate::line_fault::{
     start_fault, subckt_fault,
 };
 use crate::part::Part;
-use crate::row::{appended, mark_of};
+use crate::row::appended;
 use crate::word_list::{
     add_more, first_words, front_words, joined, keyword_of, last_word, latch_output,
 };
@@ -39,7 +40,7 @@ use std::mem;
 #[derive(Drop)]
 pub struct Reading {
     pub table: Table,
-    pub mark: u8,
+    pub mark: Option<u8>,
 }
 
 /// What the lines so far say: whether there was one, an end, the line that begins the don't-care
@@ -93,7 +94,7 @@ impl Reading {
             phase: _,
         } = table;
         let width = inputs.len();
-        let mark = mark_of(rows.as_slice(), mark, bytes[width]);
+        let mark = mark.unwrap_or(bytes[width]);
         let row = characters(alloc, &bytes[..width])?;
         let rows = appended(rows, row)?;
         let phase = mark == b'1';
@@ -104,7 +105,7 @@ impl Reading {
                 rows,
                 phase,
             },
-            mark,
+            mark: Some(mark),
         })
     }
 }
@@ -166,7 +167,7 @@ pub fn with_reading(tables: &mut Tables, reading: Option<Reading>) -> Result<(),
 }
 
 /// The part of the next line.
-#[tactic(auto, unfolding(crate::specs::Steps::place_at))]
+#[tactic(auto, unfolding(crate::specs::Lines::place_at))]
 fn place_at(ended: bool, has_part: bool) -> Part
     ensures { result ≡ place_at ended has_part }
 {
@@ -304,7 +305,7 @@ impl Draft {
         add_more(alloc, self.has_part, &mut self.reads, inputs)?;
         add_more(alloc, kept, &mut self.inner, inputs)?;
         let table = new_table(alloc, words)?;
-        self.reading = Some(Reading { table, mark: 0 });
+        self.reading = Some(Reading { table, mark: None });
         self.nodes += 1;
         Ok(())
     }
@@ -433,7 +434,7 @@ impl Draft {
 
     /// Reads one line, by its number and its words, with a library or without one. After an error
     /// the draft has no meaning.
-    #[tactic(auto, unfolding(crate::specs::Steps::take_entry))]
+    #[tactic(auto, unfolding(crate::specs::Steps::take_entry, crate::specs::Keyword::kind_of))]
     pub fn take(
         &mut self,
         alloc: Global,

@@ -11,8 +11,8 @@ ghost use Rattle.circuit_model.specs.Names.{has, all_different};
 ghost use Rattle.circuit_model.specs.Soundness.{outputs_of, control_of};
 ghost use Rattle.circuit_model.specs.declared.circuit.Latch.{Latch};
 ghost use Rattle.circuit_checks.specs.NameChecks.{first_again, first_listed_twice};
-ghost use Rattle.blif_lines.specs.Reader.{timing_fault, listed_fault, drivers_fault, tables_fault, head_fault};
-ghost use Rattle.blif_lines.specs.Steps.{told_of, settled_fault};
+ghost use Rattle.blif_lines.specs.Reader.{timing_fault, listed_fault, drivers_fault, tables_fault, signals_fault, head_fault};
+ghost use Rattle.blif_lines.specs.Steps.{told_of, settled_told};
 
 use crate::draft::Draft;
 use crate::fault::BlifFault;
@@ -146,11 +146,11 @@ fn tables_fault(
 }
 
 /// What is wrong with a draft that is settled: its drivers, otherwise its tables.
-#[tactic(auto, unfolding(crate::specs::Steps::settled_fault, crate::specs::Lines::first_of))]
-pub fn settled_fault(alloc: Global, draft: &Draft) -> Result<Option<BlifFault>, AllocError>
+#[tactic(auto, unfolding(crate::specs::Reader::signals_fault, crate::specs::Lines::first_of))]
+pub fn signals_fault(alloc: Global, draft: &Draft) -> Result<Option<BlifFault>, AllocError>
     requires { first_again draft.now.inputs draft.now.drives ≡ None → all_different
         (outputs_of draft.now.model_tables) ≡ true }
-    ensures { IfOk result (λ fault. fault ≡ settled_fault draft.now) }
+    ensures { IfOk result (λ fault. fault ≡ signals_fault (settled_told draft.now)) }
 {
     let inputs = draft.inputs.as_slice();
     let drives = draft.drives.as_slice();

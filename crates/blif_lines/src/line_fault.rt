@@ -247,7 +247,7 @@ fn reading_fault(reading: &Reading, number: usize, bytes: &[u8]) -> Option<BlifF
     if !is_row(width, bytes) {
         return Some(BlifFault::BadRow(number));
     }
-    if !has_mark(reading.table.rows.as_slice(), reading.mark, bytes[width]) {
+    if !has_mark(reading.mark, bytes[width]) {
         return Some(BlifFault::MixedPhase(number));
     }
     if reading.table.rows.len() >= MAX_ROWS {

@@ -5,8 +5,7 @@
 ghost use Rattle.std.specs.Prelude.{◌≡◌, not, ◌++◌, ◌∷◌, [], IfOk, OnOk, OnErr, if◌then◌else◌};
 ghost use Rattle.circuit_model.specs.Names.{has};
 ghost use Rattle.circuit_checks.specs.Sets.{with_name, Alike};
-ghost use Rattle.blif_lines.specs.Reader.{names_beside};
-ghost use Rattle.blif_lines.specs.Steps.{listed_or};
+ghost use Rattle.blif_lines.specs.Reader.{names_beside, listed_or};
 
 use circuit_model::{Name, Names};
 use indexmap::IndexSet;

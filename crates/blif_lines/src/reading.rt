@@ -14,7 +14,7 @@ ghost use Rattle.blif_lines.specs.Steps.{take_entry, take_entries, told_of, fini
 use crate::content::Content;
 use crate::draft::Draft;
 use crate::fault::ReadFault;
-use crate::file_fault::{head_fault, listed_fault, settled_fault};
+use crate::file_fault::{head_fault, listed_fault, signals_fault};
 use crate::settling::{circuit_of, head_of, settle};
 use genlib_format::Library;
 use sis_base::Whole;
@@ -80,7 +80,7 @@ fn read_head(alloc: Global, draft: Whole<Draft>) -> Result<Content, ReadFault>
 }
 
 /// The circuit of the draft after the last line, if nothing is wrong with the whole.
-#[tactic(auto, unfolding(crate::specs::Reader::whole_fault, crate::specs::Steps::settled, crate::specs::Steps::settled_fault, crate::specs::Lines::first_of))]
+#[tactic(auto, unfolding(crate::specs::Reader::whole_fault, crate::specs::Reader::signals_fault, crate::specs::Steps::settled, crate::specs::Lines::first_of))]
 fn read_circuit(alloc: Global, draft: Whole<Draft>) -> Result<Content, ReadFault>
     requires { HasApartTables (told_of draft.it) }
     ensures { Reads result (read_as false (told_of draft.it)) }
@@ -90,7 +90,7 @@ fn read_circuit(alloc: Global, draft: Whole<Draft>) -> Result<Content, ReadFault
         return Err(ReadFault::Fault(fault));
     }
     settle(alloc, &mut draft.it)?;
-    if let Some(fault) = settled_fault(alloc, &draft.it)? {
+    if let Some(fault) = signals_fault(alloc, &draft.it)? {
         return Err(ReadFault::Fault(fault));
     }
     Ok(Content::Circuit(circuit_of(alloc, draft)?))

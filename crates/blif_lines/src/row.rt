@@ -4,7 +4,6 @@
 ghost use Rattle.std.specs.Prelude.{◌≡◌, ◌<◌, ◌++◌, ◌∷◌, [], true, length, IfOk};
 ghost use Rattle.std.specs.List.{list_all};
 ghost use Rattle.blif_lines.specs.Lines.{is_output_character, is_row_of, has_mark};
-ghost use Rattle.blif_lines.specs.Steps.{mark_for, known_mark};
 
 use circuit_model::{Row, Rows};
 use line_words::are_characters;
@@ -29,24 +28,13 @@ pub fn is_row(width: usize, bytes: &[u8]) -> bool
     are_characters(&bytes[..width]) && are_output_characters(&bytes[width..])
 }
 
-/// Whether a byte is the output character that these rows have, if there is one.
-pub fn has_mark(rows: &[Row], mark: u8, byte: u8) -> bool
-    ensures { result ≡ has_mark (known_mark rows.now mark) byte }
+/// Whether a byte is the output character of a table, if it has one.
+pub fn has_mark(mark: Option<u8>, byte: u8) -> bool
+    ensures { result ≡ has_mark mark byte }
 {
-    match rows {
-        [] => true,
-        [_, ..] => byte == mark,
-    }
-}
-
-/// The output character that all rows have, after one more row with `byte`.
-#[tactic(auto, unfolding(crate::specs::Steps::mark_for))]
-pub fn mark_of(rows: &[Row], mark: u8, byte: u8) -> u8
-    ensures { result ≡ mark_for rows.now mark byte }
-{
-    match rows {
-        [] => byte,
-        [_, ..] => mark,
+    match mark {
+        None => true,
+        Some(mark) => byte == mark,
     }
 }
 

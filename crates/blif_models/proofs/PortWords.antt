@@ -14,7 +14,7 @@ use Rattle.blif_lines.specs.declared.keyword.Keyword.{Keyword}
 use Rattle.blif_lines.specs.declared.keyword.Keyword.TheVariants.{Model, Inputs, Outputs, Clock, Names, Latch, Gate, Subckt, StartKiss, DontCare, End, Skipped, Row, Other}
 use Rattle.blif_lines.specs.Keyword.{kind_of}
 use Rattle.blif_lines.specs.Lines.{is_none}
-use Rattle.blif_lines.specs.Reader.{model_lines, part_lines, of_lines, listed_inputs, listed_outputs, listed_clocks, clocks_in, lists_inputs, lists_outputs, read_within, driven_by, gate_tables, names_beside}
+use Rattle.blif_lines.specs.Reader.{model_lines, part_lines, of_lines, listed_inputs, listed_outputs, listed_clocks, clocks_in, lists_inputs, lists_outputs, read_within, driven_by, gate_tables, names_beside, listed_or}
 use Rattle.blif_lines.proofs.Gates.{gate_names_are_words, gate_inputs_have, gate_outputs_have}
 use Rattle.blif_lines.proofs.NameLists.{all_append, all_kept, all_map, all_taken, others_have}
 use Rattle.blif_lines.proofs.Named.{IsWord, last_has, latch_input_has, latch_output_has, latch_words_have, beside_have}
@@ -105,7 +105,7 @@ module _ (library : Option (List TheGate)) (ports_of : List ℕ → Ports) where
   unfolding ports_with
   input_words_with lines a = by (lists_inputs lines)
     where
-      by : (b : Bool) → Words (if b then of_lines listed_inputs lines else names_beside (flat_map (drives_with library ports_of) lines) (flat_map (reads_with library ports_of) lines))
+      by : (b : Bool) → Words (listed_or b (of_lines listed_inputs lines) (names_beside (flat_map (drives_with library ports_of) lines) (flat_map (reads_with library ports_of) lines)))
       by true = each_flat IsProperLine IsWord _ lines (λ line p. (listed_words (kind_of line) (other_words line.words) (others_have IsWord line.words p.words)).0) a
       by false = beside_have IsWord (flat_map (drives_with library ports_of) lines) (flat_map (reads_with library ports_of) lines) (each_flat IsProperLine IsWord (reads_with library ports_of) lines read_words a)
 
@@ -113,7 +113,7 @@ module _ (library : Option (List TheGate)) (ports_of : List ℕ → Ports) where
   unfolding ports_with
   output_words_with lines a = by (lists_outputs lines)
     where
-      by : (b : Bool) → Words (if b then of_lines listed_outputs lines else names_beside (flat_map (reads_with library ports_of) lines) (flat_map (drives_with library ports_of) lines))
+      by : (b : Bool) → Words (listed_or b (of_lines listed_outputs lines) (names_beside (flat_map (reads_with library ports_of) lines) (flat_map (drives_with library ports_of) lines)))
       by true = each_flat IsProperLine IsWord _ lines (λ line p. (listed_words (kind_of line) (other_words line.words) (others_have IsWord line.words p.words)).1.0) a
       by false = beside_have IsWord (flat_map (reads_with library ports_of) lines) (flat_map (drives_with library ports_of) lines) (each_flat IsProperLine IsWord (drives_with library ports_of) lines drive_words a)
 

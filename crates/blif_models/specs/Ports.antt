@@ -10,7 +10,7 @@ use Rattle.line_words.specs.LineWords.{other_words}
 use Rattle.genlib_format.specs.declared.gate.Gate.{Gate}
 use Rattle.blif_gates.specs.GateLines.{is_pair, pin_in, pins_of, signals_of}
 use Rattle.blif_lines.specs.Keyword.{kind_of}
-use Rattle.blif_lines.specs.Reader.{of_lines, listed_inputs, listed_outputs, lists_inputs, lists_outputs, driven_by, read_within, names_beside}
+use Rattle.blif_lines.specs.Reader.{of_lines, listed_inputs, listed_outputs, lists_inputs, lists_outputs, driven_by, read_within, names_beside, listed_or}
 use Rattle.blif_models.specs.Models.{is_instance, model_of, pairs_of, body_of}
 pub use Rattle.blif_models.specs.declared.ports.Ports.{Ports}
 use Rattle.blif_models.specs.declared.limits.TheConstants.{MAX_DEPTH}
@@ -37,10 +37,12 @@ drives_with library ports_of line =
 -- the ports of the lines of a model, by those of each other model
 unfoldable pub ports_with : Option (List Gate) → (List ℕ → Ports) → List Entry → Ports
 ports_with library ports_of lines = record {
-  inputs = if lists_inputs lines then of_lines listed_inputs lines
-      else names_beside (flat_map (drives_with library ports_of) lines) (flat_map (reads_with library ports_of) lines);
-  outputs = if lists_outputs lines then of_lines listed_outputs lines
-      else names_beside (flat_map (reads_with library ports_of) lines) (flat_map (drives_with library ports_of) lines);
+  inputs = listed_or (lists_inputs lines) (of_lines listed_inputs lines)
+      (names_beside (flat_map (drives_with library ports_of) lines)
+      (flat_map (reads_with library ports_of) lines));
+  outputs = listed_or (lists_outputs lines) (of_lines listed_outputs lines)
+      (names_beside (flat_map (reads_with library ports_of) lines)
+      (flat_map (drives_with library ports_of) lines));
 }
 
 -- the ports of the lines of a model in which models nest less deep than the given number

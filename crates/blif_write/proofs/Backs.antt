@@ -5,7 +5,7 @@ use Rattle.std.proofs.lemmas.List.{reverse-append, map-append}
 use Rattle.std.proofs.lemmas.List.Sums.{take_while-cons, sum_by-cons}
 use Rattle.sis_text.specs.Entries.{Entry}
 use Rattle.blif_lines.specs.Keyword.{kind_of, is_row, is_row_kind}
-use Rattle.blif_lines.specs.Lines.{is_end_kind, is_ended, begins_part, has_part, part_behind, is_node_kind, nodes_in, joined, heading, rows_behind}
+use Rattle.blif_lines.specs.Lines.{is_end_kind, is_ended, begins_part, has_part, place_at, part_behind, is_node_kind, nodes_in, joined, heading, rows_behind}
 use Rattle.blif_lines.specs.declared.part.Part.TheVariants as part
 use Rattle.blif_lines.specs.declared.keyword.Keyword.{Keyword}
 use Rattle.blif_lines.specs.declared.keyword.Keyword.TheVariants.{Names, Row}
@@ -19,7 +19,7 @@ pub record Goes (had : Bool) (room : ℕ) (back : List Entry) : Type 0 where
   pub few : nodes_in back + room ≤ MAX_NODES
 
 pub place_goes : (had : Bool) (room : ℕ) (back : List Entry) → Goes had room back → part_behind back ≡ (if had then part.DontCare else part.Model)
-unfolding part_behind
+unfolding part_behind place_at
 place_goes had room back goes = rw (goes.going, goes.part) refl
 
 going_more : (kind : Keyword) (line : Entry) (back : List Entry) → kind_of line ≡ kind → is_end_kind kind ≡ false → is_ended back ≡ false → is_ended (line ∷ back) ≡ false

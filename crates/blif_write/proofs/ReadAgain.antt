@@ -27,7 +27,7 @@ use Rattle.circuit_checks.proofs.Parts.{part_passes}
 use Rattle.circuit_tables.specs.Folding.{folded}
 use Rattle.circuit_tables.proofs.Folded.{folded_same, folded_outputs}
 use Rattle.blif_lines.specs.Lines.{first_of}
-use Rattle.blif_lines.specs.Reader.{first_line_fault, of_lines, model_lines, part_lines, listed_inputs, listed_outputs, inputs_in, outputs_in, ports_in, clocks_in, timing_in, drives_in, reads_in, latches_in, tables_in, model_name, circuit_of, whole_fault, unless, has_nodes, has_instances, first_fault, read_lines as read_model, told_by, timing_fault, listed_fault, drivers_fault, tables_fault, read_as, read_told}
+use Rattle.blif_lines.specs.Reader.{first_line_fault, of_lines, model_lines, part_lines, listed_inputs, listed_outputs, inputs_in, outputs_in, ports_in, clocks_in, timing_in, drives_in, reads_in, latches_in, tables_in, model_name, circuit_of, whole_fault, unless, has_nodes, has_instances, first_fault, read_lines as read_model, told_by, timing_fault, listed_fault, drivers_fault, tables_fault, signals_fault, read_as, read_told}
 use Rattle.blif_lines.specs.declared.fault.BlifFault.{BlifFault}
 use Rattle.blif_lines.specs.declared.fault.BlifFault.TheVariants.{NameTwice, MixedClock, GatedClock, TwoDrivers, Undriven, BadExdc, Cycle}
 use Rattle.blif_lines.specs.Limits.{HasShortNames}
@@ -128,12 +128,12 @@ cycle_of library gates base sound =
     ∙ none_from_acyclic tables (acyclic_before tables keep (subst IsAcyclic (sym (folded_whole library gates base sound)) sound.acyclic))
 
 no_causes : {a b c d e f g : Option BlifFault} → a ≡ None → b ≡ None → c ≡ None → d ≡ None → e ≡ None → f ≡ None → g ≡ None
-    → first_of (first_of (a ∷ first_of (b ∷ c ∷ []) ∷ []) ∷ first_of (d ∷ e ∷ []) ∷ first_of (f ∷ g ∷ []) ∷ []) ≡ None
+    → first_of (first_of (a ∷ first_of (b ∷ c ∷ []) ∷ []) ∷ first_of (first_of (d ∷ e ∷ []) ∷ first_of (f ∷ g ∷ []) ∷ []) ∷ []) ≡ None
 unfolding first_of
 no_causes a b c d e f g = rw (a, b, c, d, e, f, g) refl
 
 no_whole_fault : (library : Option (List Gate)) (gates : List Placed) (base : Circuit) → IsSound (whole library gates base) → whole_fault (told_by library (lines_of gates base)) ≡ None
-unfolding whole_fault listed_fault timing_fault drivers_fault tables_fault told_by
+unfolding whole_fault listed_fault timing_fault signals_fault drivers_fault tables_fault told_by
 no_whole_fault library gates base sound = rw (model_said gates base) (no_causes
     (ap (option_map (λ (name : List ℕ). NameTwice name)) (twice_of library gates base sound))
     (ap (option_map (λ (number : ℕ). MixedClock number)) (unmixed gates base sound.control_not_nil (timing_of library gates base sound)))

@@ -26,7 +26,7 @@ use Rattle.circuit_tables.proofs.Once.{itself, bytes_eq-sym}
 use Rattle.line_words.specs.LineWords.{other_words}
 use Rattle.blif_lines.specs.Keyword.{keyword_of, kind_of, is_row, is_row_kind}
 use Rattle.blif_lines.specs.Lines.{joined, begins_part}
-use Rattle.blif_lines.specs.Reader.{of_lines, model_lines, part_lines, listed_inputs, listed_outputs, listed_ports, listed_clocks, lists_inputs, lists_outputs, names_beside, driven_by, read_by, latches_by, init_of, inputs_in, outputs_in, ports_in, clocks_in, drives_in, reads_within, reads_in, latches_in, kind_by, control_by, timing_of, is_latch_line, latch_lines, timing_at, first_timing, timing_in, same_kind, same_control, same_timing, mixed_clock, tables_by, tables_in, table_of, model_name, gate_tables, gate_inputs}
+use Rattle.blif_lines.specs.Reader.{of_lines, model_lines, part_lines, listed_inputs, listed_outputs, listed_ports, listed_clocks, lists_inputs, lists_outputs, names_beside, listed_or, driven_by, read_by, latches_by, init_of, inputs_in, outputs_in, ports_in, clocks_in, drives_in, reads_within, reads_in, latches_in, kind_by, control_by, timing_of, is_latch_line, latch_lines, timing_at, first_timing, timing_in, same_kind, same_control, same_timing, mixed_clock, tables_by, tables_in, table_of, model_name, gate_tables, gate_inputs}
 use Rattle.blif_lines.specs.declared.keyword.Keyword.{Keyword}
 use Rattle.blif_lines.specs.declared.keyword.Keyword.TheVariants.{Model, Inputs, Outputs, Clock, Names, Latch, Gate, Subckt, StartKiss, DontCare, End, Skipped, Row, Other}
 use Rattle.blif_lines.proofs.NameLists.{all_append}
@@ -166,12 +166,12 @@ outputs_listed gates circuit = refl
 pub inputs_said : (library : Option (List TheGate)) (gates : List Placed) (circuit : Circuit) → inputs_in library (own_of gates circuit) ≡ circuit.inputs
 unfolding inputs_in
 inputs_said library gates circuit =
-    ap (λ (b : Bool). if b then of_lines listed_inputs (own_of gates circuit) else names_beside (drives_in library (own_of gates circuit)) (reads_within library (own_of gates circuit))) (inputs_listed gates circuit) ∙ listed_inputs_said gates circuit
+    ap (λ (b : Bool). listed_or b (of_lines listed_inputs (own_of gates circuit)) (names_beside (drives_in library (own_of gates circuit)) (reads_within library (own_of gates circuit)))) (inputs_listed gates circuit) ∙ listed_inputs_said gates circuit
 
 pub outputs_said : (library : Option (List TheGate)) (gates : List Placed) (circuit : Circuit) → outputs_in library (own_of gates circuit) ≡ circuit.outputs
 unfolding outputs_in
 outputs_said library gates circuit =
-    ap (λ (b : Bool). if b then of_lines listed_outputs (own_of gates circuit) else names_beside (reads_within library (own_of gates circuit)) (drives_in library (own_of gates circuit))) (outputs_listed gates circuit) ∙ listed_outputs_said gates circuit
+    ap (λ (b : Bool). listed_or b (of_lines listed_outputs (own_of gates circuit)) (names_beside (reads_within library (own_of gates circuit)) (drives_in library (own_of gates circuit)))) (outputs_listed gates circuit) ∙ listed_outputs_said gates circuit
 
 pub ports_said : (gates : List Placed) (circuit : Circuit) → ports_in (own_of gates circuit) ≡ circuit.inputs ++ circuit.outputs
 unfolding ports_in
