@@ -1,11 +1,14 @@
 -- Words as slices of a text: definitions about them go by their bytes.
-use Rattle.std.specs.Prelude.{◌≡◌, ℕ, ◌+◌, ◌-◌, ◌<◌, ◌≤◌, length, take, List, [], ◌∷◌, ◌++◌, min}
+use Rattle.std.specs.Prelude.{◌≡◌, ℕ, false, ◌+◌, ◌-◌, ◌<◌, ◌≤◌, length, take, List, [], ◌∷◌, ◌++◌, min}
 use Rattle.std.specs.Borrow.{Bor}
 use Rattle.std.specs.List.{take-map}
 use Rattle.std.proofs.Common.{refl, sym, ◌∙◌, ap, get_or, arith}
 use Rattle.std.proofs.lemmas.List.{take_min, take_more, length-map, map-append, append-nil}
 use Rattle.std.proofs.lemmas.Grind.{flat_map-append}
+use Rattle.sis_text.specs.Words.{begins_with}
 use Rattle.line_words.specs.LineWords.{texts}
+use Rattle.blif_lines.specs.Keyword.{keyword_of, skipped_words}
+use Rattle.blif_lines.specs.declared.keyword.Keyword.TheVariants.{Row}
 use Rattle.blif_lines.specs.Lines.{last_word, joined, input_words}
 
 pub texts_more : (words : List (Bor (List ℕ))) (i : ℕ) (d : Bor (List ℕ)) → i < length words → texts (take (i + 1) words) ≡ texts (take i words) ++ (get_or words i d).now ∷ []
@@ -52,3 +55,9 @@ first_texts words count most e =
     sym (take-map (λ (word : Bor (List ℕ)). word.now) most words)
     ∙ ap (λ n. take n (texts words)) (e ∙ ap (λ n. min count n) (sym (length-map words (λ (word : Bor (List ℕ)). word.now))))
     ∙ take_min count (texts words)
+
+-- a word that does not begin with `.` is that of a row
+pub row_word : (word : List ℕ) → begins_with 46 word ≡ false → keyword_of word ≡ Row
+unfolding keyword_of skipped_words
+row_word [] e = refl
+row_word (byte ∷ bytes) e = rw e refl

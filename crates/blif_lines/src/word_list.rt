@@ -5,7 +5,7 @@
 //! events are skipped. The other calls return the last word, all words but the last, the first few,
 //! a latch's output, or the bytes of all words joined, as a row is written.
 
-ghost use Rattle.std.specs.Prelude.{◌≡◌, take, bytes_eq, codes, IfOk, OnOk, OnErr, if◌then◌else◌};
+ghost use Rattle.std.specs.Prelude.{◌≡◌, true, take, bytes_eq, codes, IfOk, OnOk, OnErr, if◌then◌else◌};
 ghost use Rattle.std.specs.List.{list_any};
 ghost use Rattle.circuit_model.specs.Names.{has};
 ghost use Rattle.sis_text.specs.Words.{begins_with};
@@ -20,9 +20,32 @@ use circuit_model::Names;
 use line_words::add_names;
 use std::alloc::{AllocError, Global};
 
+/// Whether a word begins with `.`.
+fn is_dotted(word: &[u8]) -> bool
+    ensures { result ≡ begins_with 46 word.now }
+{
+    match word {
+        [b'.', ..] => true,
+        _ => false,
+    }
+}
+
 /// What a line is, by its first word.
-#[tactic(auto, unfolding(crate::specs::Keyword::keyword_of))]
+#[tactic(auto, using(crate::proofs::Words::row_word))]
 pub fn keyword_of(word: &[u8]) -> Keyword
+    ensures { result ≡ keyword_of word.now }
+{
+    // A row is known by its first byte, before it is compared with any word.
+    if !is_dotted(word) {
+        return Keyword::Row;
+    }
+    dotted_keyword(word)
+}
+
+/// The kind of a line whose first word begins with `.`.
+#[tactic(auto, unfolding(crate::specs::Keyword::keyword_of))]
+fn dotted_keyword(word: &[u8]) -> Keyword
+    requires { begins_with 46 word.now ≡ true }
     ensures { result ≡ keyword_of word.now }
 {
     if word == b".model".as_slice() {
@@ -38,8 +61,9 @@ pub fn keyword_of(word: &[u8]) -> Keyword
     }
 }
 
-/// The kind of a line that is not one of the model, its ports or its clocks.
+/// The same of a line that is not one of the model, its ports or its clocks.
 fn node_keyword(word: &[u8]) -> Keyword
+    requires { begins_with 46 word.now ≡ true }
     ensures { result ≡ (if bytes_eq word.now (codes ".names") then Keyword.Names else
         (if bytes_eq word.now (codes ".latch") then Keyword.Latch else
         (if bytes_eq word.now (codes ".gate") then Keyword.Gate else
@@ -67,7 +91,7 @@ fn node_keyword(word: &[u8]) -> Keyword
     } else if is_skipped(word) {
         Keyword::Skipped
     } else {
-        dotted_or_row(word)
+        Keyword::Other
     }
 }
 
@@ -103,16 +127,6 @@ fn is_skipped(word: &[u8]) -> bool
         b".clock_event".as_slice(),
     ];
     is_among(skipped.as_slice(), word)
-}
-
-/// A dotted word that is not known, or the first word of a row.
-fn dotted_or_row(word: &[u8]) -> Keyword
-    ensures { result ≡ (if begins_with 46 word.now then Keyword.Other else Keyword.Row) }
-{
-    match word {
-        [b'.', ..] => Keyword::Other,
-        _ => Keyword::Row,
-    }
 }
 
 /// The last word; the empty one if there is none.

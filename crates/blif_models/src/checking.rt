@@ -18,8 +18,7 @@ ghost use Rattle.blif_models.specs.Reader.{later_fault, lines_fault, file_fault}
 ghost use Rattle.blif_models.specs.Checking.{names_before, check_entry, check_entries, Checks};
 
 use crate::file::File;
-use crate::kinds::kind_at;
-use crate::line_kind::name_on;
+use crate::line_kind::{kind_at, name_on};
 use blif_lines::{BlifFault, Draft, Keyword, ReadFault, take_line};
 use genlib_format::Library;
 use sis_base::Whole;

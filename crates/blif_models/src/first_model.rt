@@ -25,7 +25,7 @@ ghost use Rattle.blif_models.specs.declared.limits.TheConstants.{MAX_DEPTH};
 
 use crate::file::File;
 use crate::flat::{Models, take_flat};
-use crate::kinds::kind_at;
+use crate::line_kind::kind_at;
 use crate::owned_line::slices_of;
 use crate::ports::{Ports, lists};
 use crate::side::Side;

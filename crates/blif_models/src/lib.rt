@@ -7,7 +7,6 @@ mod first_model;
 mod flat;
 mod graph;
 mod instance;
-mod kinds;
 pub mod laws;
 mod limits;
 mod line_kind;

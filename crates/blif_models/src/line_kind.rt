@@ -9,11 +9,12 @@ ghost use Rattle.sis_text.specs.Entries.{entry_at};
 ghost use Rattle.sis_text.specs.Words.{bytes_at};
 ghost use Rattle.line_words.specs.LineWords.{first_word, other_words};
 ghost use Rattle.blif_lines.specs.Keyword.{kind_of};
-ghost use Rattle.blif_lines.specs.Lines.{begins_part};
+ghost use Rattle.blif_lines.specs.Lines.{begins_part, is_node_kind};
 ghost use Rattle.blif_lines.specs.Reader.{named_by};
 ghost use Rattle.blif_lines.specs.declared.keyword.Keyword.TheVariants as keyword;
 ghost use Rattle.blif_models.specs.Models.{begins_model, is_instance, model_of};
 
+use blif_lines::{Keyword, keyword_of};
 use sis_text::{Line, Span, bytes_at};
 
 /// The first of some words; no bytes if there is none.
@@ -26,28 +27,52 @@ pub fn first_of<'a>(text: &'a [u8], words: &[Span]) -> &'a [u8]
     }
 }
 
+/// The kind of a line.
+#[tactic(auto, unfolding(blif_lines::specs::Keyword::kind_of))]
+pub fn kind_at(text: &[u8], line: &Line) -> Keyword
+    ensures { result ≡ kind_of (entry_at text.now line.now) }
+{
+    keyword_of(first_of(text, line.words.as_slice()))
+}
+
+/// Whether a line is that of a table, a latch or a gate.
+pub fn is_node(text: &[u8], line: &Line) -> bool
+    ensures { result ≡ is_node_kind (kind_of (entry_at text.now line.now)) }
+{
+    match kind_at(text, line) {
+        Keyword::Names | Keyword::Latch | Keyword::Gate => true,
+        _ => false,
+    }
+}
+
 /// Whether a line begins a model.
-#[tactic(auto, using(crate::proofs::FirstWords::model_by_word), unfolding(blif_lines::specs::Keyword::kind_of))]
 pub fn begins_model(text: &[u8], line: &Line) -> bool
     ensures { result ≡ begins_model (entry_at text.now line.now) }
 {
-    first_of(text, line.words.as_slice()) == b".model".as_slice()
+    match kind_at(text, line) {
+        Keyword::Model => true,
+        _ => false,
+    }
 }
 
 /// Whether a line puts in an instance of a model.
-#[tactic(auto, using(crate::proofs::FirstWords::instance_by_word), unfolding(blif_lines::specs::Keyword::kind_of))]
 pub fn is_instance(text: &[u8], line: &Line) -> bool
     ensures { result ≡ is_instance (entry_at text.now line.now) }
 {
-    first_of(text, line.words.as_slice()) == b".subckt".as_slice()
+    match kind_at(text, line) {
+        Keyword::Subckt => true,
+        _ => false,
+    }
 }
 
 /// Whether a line begins a don't-care part.
-#[tactic(auto, using(crate::proofs::FirstWords::part_by_word), unfolding(blif_lines::specs::Keyword::kind_of))]
 pub fn begins_part(text: &[u8], line: &Line) -> bool
     ensures { result ≡ begins_part (kind_of (entry_at text.now line.now)) }
 {
-    first_of(text, line.words.as_slice()) == b".exdc".as_slice()
+    match kind_at(text, line) {
+        Keyword::DontCare => true,
+        _ => false,
+    }
 }
 
 /// The items after the first.

@@ -18,8 +18,7 @@ ghost use Rattle.blif_models.specs.Makings.{named_as, named_on, part_names};
 
 use crate::file::File;
 use crate::flat::pairs_among;
-use crate::kinds::kind_at;
-use crate::line_kind;
+use crate::line_kind::{is_instance, kind_at};
 use crate::sizes::part;
 use blif_gates::signal_in;
 use blif_lines::{Keyword, first_words, names_beside};
@@ -132,7 +131,7 @@ fn add_line(
 {
     let words = texts_at(alloc, text, line.words.as_slice())?;
     let others = other_words(words.as_slice());
-    if line_kind::is_instance(text, line) {
+    if is_instance(text, line) {
         return add_pairs(alloc, names, other_words(others));
     }
     add_as(alloc, names, extent, kind_at(text, line), others)

@@ -22,8 +22,8 @@ ghost use Rattle.blif_models.specs.PortTables.{ports_by, lists_both, next_ports,
 ghost use Rattle.blif_models.specs.Sides.{ports_on, listed_on, is_kind_on, lists_on};
 
 use crate::file::File;
-use crate::kinds::kind_at;
 use crate::limits::MAX_DEPTH;
+use crate::line_kind::kind_at;
 use crate::port_lines::signals;
 use crate::side::{Side, other_side};
 use crate::word_set::WordSet;

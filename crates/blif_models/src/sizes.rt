@@ -16,8 +16,8 @@ ghost use Rattle.blif_models.specs.Models.{model_graph};
 ghost use Rattle.blif_models.specs.Sizes.{sizes_at, own_size, own_sizes, size_with, next_size, next_sizes, count_fault};
 
 use crate::file::File;
-use crate::kinds::is_node;
 use crate::limits::MAX_DEPTH;
+use crate::line_kind::is_node;
 use blif_lines::{BlifFault, LimitKind};
 use sis_base::Sequence;
 use sis_base::limits::MAX_NODES;
