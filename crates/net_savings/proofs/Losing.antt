@@ -1,5 +1,5 @@
 -- What tables lose if they are divided.
-use Rattle.std.proofs.Common.{◌≡◌, ℕ, ◌+◌, ◌≤◌, ◌<◌, ltb, ◌&&◌, Bool, true, false, Option, Some, None, List, [], ◌∷◌, ◌++◌, length, take, get_or, refl, sym, ap, ◌∙◌, subst, inl, inr, arith}
+use Rattle.std.proofs.Common.{◌≡◌, ℕ, ◌+◌, ◌≤◌, ◌<◌, ltb, ◌&&◌, Bool, true, false, Option, Some, None, List, [], ◌∷◌, ◌++◌, length, take, get_or, refl, sym, ap, ◌∙◌, subst, inl, inr, arith, ◌⊎◌}
 use Rattle.std.specs.List.{sum_by, AllByRecursion}
 use Rattle.std.proofs.lemmas.Bool.{false≢true, and_parts, ltb-true, lt-ltb, cases_lt}
 use Rattle.std.proofs.lemmas.List.{take_more}
@@ -21,6 +21,7 @@ use Rattle.net_work.proofs.Indexed.{all_at, all_standing}
 use Rattle.alg_tables.specs.Dividing.{divided, cover_table}
 use Rattle.alg_tables.proofs.Divided.{unread_stays}
 use Rattle.circuit_tables.specs.Tidy.{IsWide}
+use Rattle.net_savings.specs.Indexed.{AreAll}
 use Rattle.net_savings.specs.Saving.{lost_by, lost_of, lost_at, IsNarrowIn, IsLoss, IsSaved}
 use Rattle.net_savings.proofs.Summing.{in_has, sum_places}
 use Rattle.net_savings.proofs.Reading.{divided_reads_name}
@@ -57,19 +58,23 @@ module _ (name : List ℕ) (cover : NamedCover) (table : Table) where
             | inr less ↦ omega (arith, same, less)
           ]
 
--- indices, each once, that include those of all tables that read all that the cover reads
-pub record AreAll (cover : NamedCover) (slots : List (Option Table)) (places : List ℕ) : Type 0 where
-  pub once : AreOnce places
-  pub all : (at : ℕ) (table : Table) → table_at slots at ≡ Some table → is_over table.inputs cover ≡ true → is_in places at ≡ true
+-- the tables that read all that a cover reads are all that it divides
+pub all_readers : (cover : NamedCover) (slots : List (Option Table)) (places : List ℕ) → AreOnce places
+    → ((at : ℕ) (table : Table) → table_at slots at ≡ Some table → is_over table.inputs cover ≡ true → is_in places at ≡ true) → AreAll cover slots places
+all_readers cover slots places once all = record { once = once; all = λ at table there. cases at table there (is_over table.inputs cover) refl }
+  where
+    cases : (at : ℕ) (table : Table) → table_at slots at ≡ Some table → (b : Bool) → is_over table.inputs cover ≡ b → (is_in places at ≡ true) ⊎ ((name : List ℕ) → divided name true cover table ≡ table)
+    cases at table there true e = inl (all at table there e)
+    cases at table there false e = inr (λ name. unread_stays name true cover table e)
 
 module _ (name : List ℕ) (cover : NamedCover) (slots : List (Option Table)) where
   -- a table at another index stays as it is
   pub stays : (places : List ℕ) → AreAll cover slots places → (at : ℕ) → (Has at places → ⊥) → (table : Table) → table_at slots at ≡ Some table → divided name true cover table ≡ table
-  stays places are at away table there = cases (is_over table.inputs cover) refl
-    where
-      cases : (b : Bool) → is_over table.inputs cover ≡ b → divided name true cover table ≡ table
-      cases true e = absurd (away (in_has places at (are.all at table there e)))
-      cases false e = unread_stays name true cover table e
+  stays places are at away table there =
+      elim (are.all at table there) as (λ _. divided name true cover table ≡ table) [
+        | inl h ↦ absurd (away (in_has places at h))
+        | inr same ↦ same name
+      ]
 
   none_lost : (places : List ℕ) → AreAll cover slots places → (at : ℕ) → (Has at places → ⊥) → lost_of name cover (table_at slots at) ≡ 0
   none_lost places are at away = cases (table_at slots at) refl
@@ -85,13 +90,11 @@ module _ (name : List ℕ) (cover : NamedCover) (slots : List (Option Table)) wh
 
   pub all_narrow : (places : List ℕ) → AreAll cover slots places → AllByRecursion (λ place. IsNarrowIn name cover (table_at slots place)) places
       → AllByRecursion (IsNarrow name cover) (standing slots)
-  all_narrow places are narrow = all_standing (IsNarrow name cover) slots (λ at table there. cases at table there (is_over table.inputs cover) refl)
-    where
-      cases : (at : ℕ) (table : Table) → table_at slots at ≡ Some table → (b : Bool) → is_over table.inputs cover ≡ b → IsNarrow name cover table
-      cases at table there true e =
-          subst (IsNarrowIn name cover) there
-          (all_member (λ place. IsNarrowIn name cover (table_at slots place)) places narrow at (in_has places at (are.all at table there e)))
-      cases at table there false e = inl (unread_stays name true cover table e)
+  all_narrow places are narrow = all_standing (IsNarrow name cover) slots (λ at table there.
+      elim (are.all at table there) as (λ _. IsNarrow name cover table) [
+        | inl h ↦ subst (IsNarrowIn name cover) there (all_member (λ place. IsNarrowIn name cover (table_at slots place)) places narrow at (in_has places at h))
+        | inr same ↦ inl (same name)
+      ])
 
   pub narrow_there : AllByRecursion (IsNarrow name cover) (standing slots) → (at : ℕ) → IsNarrowIn name cover (table_at slots at)
   narrow_there all at = cases (table_at slots at) refl

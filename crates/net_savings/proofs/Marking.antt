@@ -1,44 +1,49 @@
 -- Marks of rows by literals: which rows have all literals of a cube.
-use Rattle.std.proofs.Common.{◌≡◌, ℕ, ◌+◌, ◌<◌, ◌≤◌, zero, suc, ◌&&◌, ◌||◌, if◌then◌else◌, Bool, true, false, Option, Some, None, List, [], ◌∷◌, ◌++◌, cond, map, filter, length, take, get_or, slice_get, replicate, refl, sym, ap, ap₂, ◌∙◌, subst, arith}
+use Rattle.std.proofs.Common.{◌≡◌, ℕ, ◌+◌, ◌-◌, ◌<◌, ◌≤◌, zero, suc, ◌&&◌, ◌||◌, if◌then◌else◌, Bool, true, false, Option, Some, None, List, [], ◌∷◌, ◌++◌, cond, map, drop, filter, length, set, take, get_or, replicate, refl, sym, ap, ap₂, ◌∙◌, subst, arith}
 use Rattle.std.specs.Global.{Vec}
 use Rattle.std.specs.List.{list_all, list_any}
-use Rattle.std.proofs.lemmas.List.{take_all, take_more}
+use Rattle.std.proofs.lemmas.List.{drop-drop, drop-set-lt, get_or-drop, take-append-le, take_all, take_more, take_more_set}
+use Rattle.std.proofs.lemmas.Simd.{get_or-zip2, length-zip2}
+use Rattle.std.specs.Simd.Lanes.{zip2}
 use Rattle.std.proofs.lemmas.Option.{none-some, same_Some}
 use Rattle.net_candidates.specs.Candidates.{same_literal}
 use Rattle.net_candidates.specs.Pairs.{has_all}
 use Rattle.net_candidates.specs.Spots.{many}
 use Rattle.net_candidates.proofs.Keeping.{same_is}
-use Rattle.cover_names.specs.Literals.{Cube}
+use Rattle.cover_names.specs.Literals.{Cube, NamedCover}
 use Rattle.cover_names.specs.declared.literal.Literal.{Literal}
-use Rattle.net_savings.specs.Meeting.{set_at, in_both, AreMarks}
+use Rattle.net_savings.specs.Indexed.{rows_in, marks_in}
+use Rattle.net_savings.specs.Meeting.{both, AreMarks}
+use Rattle.net_savings.specs.declared.rows.RowSpan.{RowSpan}
 
 -- ---- marks that are set in both of two lists
 
-both_long : (marks others : List Bool) → length (in_both marks others) ≡ length marks
-both_long [] others = refl
-both_long (mark ∷ marks) [] = ap suc (both_long marks [])
-both_long (mark ∷ marks) (other ∷ others) = ap suc (both_long marks others)
+-- those before a place are kept if both are set, those from it on are as they were
+pub record AreKeptTo (old others now : List Bool) (i : ℕ) : Type 0 where
+  pub done : take i now ≡ take i (zip2 both old others)
+  pub rest : drop i now ≡ drop i old
 
-both_at : (marks others : List Bool) (i : ℕ) (d : Bool) → i < length marks → get_or (in_both marks others) i d ≡ (set_at (slice_get marks i) && set_at (slice_get others i))
-both_at [] others i d below = absurd (omega (arith, below))
-both_at (true ∷ marks) [] zero d below = refl
-both_at (false ∷ marks) [] zero d below = refl
-both_at (mark ∷ marks) [] (suc i) d below = both_at marks [] i d (omega (arith, below))
-both_at (mark ∷ marks) (other ∷ others) zero d below = refl
-both_at (mark ∷ marks) (other ∷ others) (suc i) d below = both_at marks others i d (omega (arith, below))
+pub kept_more : (old others now : List Bool) (i : ℕ) (mark : Bool) → length old ≡ length others → length now ≡ length old → i < length old
+    → mark ≡ (get_or now i false && get_or others i false) → AreKeptTo old others now i → AreKeptTo old others (set now i mark) (i + 1)
+kept_more old others now i mark e d h is t =
+    let z = zip2 both old others in
+    let long : length z ≡ length old = length-zip2 both old others e in
+    let none : i + 0 ≡ i = omega arith in
+    let here : get_or now i false ≡ get_or old i false = cc (ap (λ l. get_or l 0 false) t.rest, get_or-drop i now 0 false, get_or-drop i old 0 false) in
+    let item : get_or z i false ≡ both (get_or old i false) (get_or others i false) = get_or-zip2 both old others i false false false h (omega arith) in
+    let step : take (i + 1) (set now i mark) ≡ take i now ++ mark ∷ [] = take_more_set now i mark (omega arith) in
+    let whole : take (i + 1) z ≡ take i z ++ get_or z i false ∷ [] = take_more z i false (omega arith) in
+    record {
+      done = step ∙ ap (λ l. l ++ mark ∷ []) t.done ∙ ap (λ y. take i z ++ y ∷ []) (is ∙ ap (λ y. both y (get_or others i false)) here ∙ sym item) ∙ sym whole;
+      rest = drop-set-lt (i + 1) now i mark (omega arith) ∙ sym (drop-drop 1 i now) ∙ ap (drop 1) t.rest ∙ drop-drop 1 i old;
+    }
 
-pub both_next : (marks others made now : List Bool) (i : ℕ) (both : Bool) → i < length marks → made ≡ take i (in_both marks others) → now ≡ made ++ both ∷ []
-    → both ≡ (set_at (slice_get marks i) && set_at (slice_get others i)) → now ≡ take (i + 1) (in_both marks others)
-both_next marks others made now i both below before is both_is =
-    let long : length (in_both marks others) ≡ length marks = both_long marks others in
-    is
-    ∙ (ap₂ (λ (m : List Bool) (b : Bool). m ++ b ∷ []) before (both_is ∙ sym (both_at marks others i false below))
-    ∙ sym (take_more (in_both marks others) i false (omega (arith, below, long))))
+pub kept_all : (old others now : List Bool) (i : ℕ) → length old ≡ length others → length now ≡ length old → length old ≤ i → AreKeptTo old others now i → now ≡ zip2 both old others
+kept_all old others now i e d h t =
+    sym (take_all i now (omega arith)) ∙ t.done ∙ take_all i (zip2 both old others) (omega (arith, length-zip2 both old others e))
 
-pub both_done : (marks others made : List Bool) (i : ℕ) → length marks ≤ i → made ≡ take i (in_both marks others) → made ≡ in_both marks others
-both_done marks others made i h before =
-    let long : length (in_both marks others) ≡ length marks = both_long marks others in
-    before ∙ take_all i (in_both marks others) (omega (arith, h, long))
+pub refilled : (n : ℕ) (old new : List Bool) → n ≡ length new → take n (new ++ drop (length new) old) ≡ new
+refilled n old new e = take-append-le n new (drop (length new) old) (omega (arith, e)) ∙ take_all n new (omega (arith, e))
 
 -- ---- rows that have all literals of a cube
 
@@ -46,7 +51,7 @@ same_map : {X Z : Type 0} (f g : X → Z) (xs : List X) → ((x : X) → f x ≡
 same_map f g [] same = refl
 same_map f g (x ∷ xs) same = ap₂ (λ z zs. z ∷ zs) (same x) (same_map f g xs same)
 
-both_maps : {X : Type 0} (f g : X → Bool) (xs : List X) → in_both (map f xs) (map g xs) ≡ map (λ (x : X). f x && g x) xs
+both_maps : {X : Type 0} (f g : X → Bool) (xs : List X) → zip2 both (map f xs) (map g xs) ≡ map (λ (x : X). f x && g x) xs
 both_maps f g [] = refl
 both_maps f g (x ∷ xs) = ap (λ (marks : List Bool). (f x && g x) ∷ marks) (both_maps f g xs)
 
@@ -67,10 +72,10 @@ all_marked [] = refl
 all_marked (x ∷ xs) = ap (λ (marks : List Bool). true ∷ marks) (all_marked xs)
 
 pub holders_next : (rows : List Cube) (cube : Cube) (i : ℕ) (literal d : Literal) (held now : List Bool) → i < length cube → literal ≡ get_or cube i d → held ≡ map (has_all (take i cube)) rows
-    → now ≡ in_both held (map (list_any (same_literal literal)) rows) → now ≡ map (has_all (take (i + 1) cube)) rows
+    → now ≡ zip2 both held (map (list_any (same_literal literal)) rows) → now ≡ map (has_all (take (i + 1) cube)) rows
 holders_next rows cube i literal d held now below is before now_is =
     now_is
-    ∙ (ap (λ (marks : List Bool). in_both marks (map (list_any (same_literal literal)) rows)) before
+    ∙ (ap (λ (marks : List Bool). zip2 both marks (map (list_any (same_literal literal)) rows)) before
     ∙ (both_maps (has_all (take i cube)) (list_any (same_literal literal)) rows ∙ same_map (λ (row : Cube). has_all (take i cube) row && list_any (same_literal literal) row) (has_all (take (i + 1) cube)) rows one_more))
   where
     one_more : (row : Cube) → (has_all (take i cube) row && list_any (same_literal literal) row) ≡ has_all (take (i + 1) cube) row
@@ -93,6 +98,40 @@ many_marked {X} test (x ∷ xs) = cases (test x) refl (many_marked test xs)
         → length (cond b (test x ∷ filter (λ (mark : Bool). mark) (map test xs)) (filter (λ (mark : Bool). mark) (map test xs))) ≡ length (cond b (x ∷ filter test xs) (filter test xs))
     cases true e rest = ap suc rest
     cases false e rest = rest
+
+-- ---- marks of the rows of a span
+
+take_map : {X Z : Type 0} (f : X → Z) (n : ℕ) (xs : List X) → take n (map f xs) ≡ map f (take n xs)
+take_map f zero xs = refl
+take_map f (suc n) [] = refl
+take_map f (suc n) (x ∷ xs) = ap (λ zs. f x ∷ zs) (take_map f n xs)
+
+drop_map : {X Z : Type 0} (f : X → Z) (n : ℕ) (xs : List X) → drop n (map f xs) ≡ map f (drop n xs)
+drop_map f zero xs = refl
+drop_map f (suc n) [] = refl
+drop_map f (suc n) (x ∷ xs) = drop_map f n xs
+
+all_mapped : {X Z : Type 0} (f : X → Z) (test : Z → Bool) (xs : List X) → list_all test (map f xs) ≡ list_all (λ (x : X). test (f x)) xs
+all_mapped f test [] = refl
+all_mapped f test (x ∷ xs) = ap (λ (b : Bool). test (f x) && b) (all_mapped f test xs)
+
+all_same : {X : Type 0} (f g : X → Bool) (xs : List X) → ((x : X) → f x ≡ g x) → list_all f xs ≡ list_all g xs
+all_same f g [] same = refl
+all_same f g (x ∷ xs) same = ap₂ (λ (a b : Bool). a && b) (same x) (all_same f g xs same)
+
+marked_span : (test : Cube → Bool) (rows : List Cube) (span : RowSpan) → marks_in span (map test rows) ≡ list_any test (rows_in rows span)
+marked_span test rows span =
+    ap (list_any (λ (mark : Bool). mark)) (ap (take (span.end - span.start)) (drop_map test span.start rows) ∙ take_map test (span.end - span.start) (drop span.start rows))
+    ∙ any_marked test (rows_in rows span)
+
+pub marked_each : (rows : List Cube) (span : RowSpan) (cover : NamedCover) (lists : List (Vec Bool)) → map (λ (marks : Vec Bool). marks.items) lists ≡ map (λ (cube : Cube). map (has_all cube) rows) cover
+    → list_all (λ (cube : Cube). list_any (has_all cube) (rows_in rows span)) cover ≡ true → list_all (λ (marks : Vec Bool). marks_in span marks.items) lists ≡ true
+marked_each rows span cover lists is h =
+    sym (all_mapped (λ (marks : Vec Bool). marks.items) (marks_in span) lists)
+    ∙ ap (list_all (marks_in span)) is
+    ∙ all_mapped (λ (cube : Cube). map (has_all cube) rows) (marks_in span) cover
+    ∙ all_same (λ (cube : Cube). marks_in span (map (has_all cube) rows)) (λ (cube : Cube). list_any (has_all cube) (rows_in rows span)) cover (λ cube. marked_span (has_all cube) rows span)
+    ∙ h
 
 -- ---- marks that are kept for literals
 

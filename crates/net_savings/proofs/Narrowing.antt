@@ -17,7 +17,8 @@ use Rattle.net_core.specs.declared.places.Entry.{Entry}
 use Rattle.net_work.specs.Placed.{Placed, standing, circuit_of, table_at}
 use Rattle.alg_tables.specs.Dividing.{divided, cover_table}
 use Rattle.net_savings.specs.Saving.{IsNarrowIn, IsLoss, LeavesNarrow}
-use Rattle.net_savings.proofs.Losing.{AreAll, all_narrow, narrow_there}
+use Rattle.net_savings.specs.Indexed.{AreAll}
+use Rattle.net_savings.proofs.Losing.{all_narrow, narrow_there}
 use Rattle.net_savings.proofs.Reading.{divided_few}
 use Rattle.net_savings.proofs.Tabled.{name_unread}
 use Rattle.sis_base.specs.declared.limits.TheConstants.{MAX_INPUTS}

@@ -34,16 +34,9 @@ IsAside met new_met old new = (cover : NamedCover) → new_met cover ≡ false
 
 -- ---- how it is found out; no public clause needs these definitions
 
--- a mark, not set if there is none
-abbrev pub set_at : Option Bool → Bool
-set_at None = false
-set_at (Some mark) = mark
-
--- for each of some marks whether it is set in another list too
-abbrev pub in_both : List Bool → List Bool → List Bool
-in_both [] others = []
-in_both (mark ∷ marks) [] = false ∷ in_both marks []
-in_both (mark ∷ marks) (other ∷ others) = (mark && other) ∷ in_both marks others
+-- whether two marks are set
+abbrev pub both : Bool → Bool → Bool
+both mark other = mark && other
 
 -- marks that are kept for literals say which rows have them
 abbrev pub AreMarks : List Cube → (Literal → Option (Vec Bool)) → Type 0

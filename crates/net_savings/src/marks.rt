@@ -4,14 +4,15 @@
 //! literals, one list of marks after the other. Callers rely on `has_holder` and `count_holders`:
 //! the answers are exact. Which literals of the rows are marked beforehand no clause says.
 
-ghost use Rattle.std.specs.Prelude.{◌≡◌, ◌&&◌, Bool, true, Some, map, replicate, slice_get, if◌then◌else◌, IfOk, OnOk};
+ghost use Rattle.std.specs.Prelude.{◌≡◌, Bool, true, Some, length, map, replicate, if◌then◌else◌, IfOk, OnOk};
+ghost use Rattle.std.specs.Simd.Lanes.{zip2};
 ghost use Rattle.std.specs.List.{list_any};
 ghost use Rattle.indexmap.specs.IndexMap.{get};
 ghost use Rattle.net_candidates.specs.Candidates.{same_literal};
 ghost use Rattle.net_candidates.specs.Pairs.{has_all};
 ghost use Rattle.net_candidates.specs.Spots.{many};
 ghost use Rattle.cover_names.specs.declared.literal.Literal.{Literal};
-ghost use Rattle.net_savings.specs.Meeting.{set_at, in_both, AreMarks};
+ghost use Rattle.net_savings.specs.Meeting.{both, AreMarks};
 
 use circuit_model::Name;
 use cover_names::{Cube, Literal};
@@ -145,37 +146,18 @@ fn mark_names(
     Ok(())
 }
 
-// Whether a mark is set, if there is one.
-fn is_set(marks: &[bool], place: usize) -> bool
-    ensures { result ≡ set_at (slice_get marks.now place) }
+// Keeps of some marks those that are set in another list too.
+fn keep_common(held: &mut [bool], others: &[bool])
+    requires { length held.old ≡ length others.now }
+    ensures { held.new ≡ zip2 both held.old others.now }
 {
-    match marks.get(place) {
-        None => false,
-        Some(mark) => *mark,
+    for place in 0..held.len() {
+        held[place] &= others[place];
     }
 }
 
-// Whether a mark is set in two lists.
-fn is_set_in_both(marks: &[bool], others: &[bool], place: usize) -> bool
-    ensures { result ≡ (set_at (slice_get marks.now place) && set_at (slice_get others.now place)) }
-{
-    is_set(marks, place) && is_set(others, place)
-}
-
-// For each of some marks whether it is set in another list too.
-fn set_in_both(alloc: Global, marks: &[bool], others: &[bool]) -> Result<Vec<bool>, AllocError>
-    ensures { IfOk result (λ made. made.items ≡ in_both marks.now others.now) }
-{
-    let mut made = Vec::with_capacity(alloc, marks.len())?;
-    for place in 0..marks.len() {
-        let both = is_set_in_both(marks, others, place);
-        made.push(both)?;
-    }
-    Ok(made)
-}
-
-// Whether a mark is set.
-fn is_some_set(marks: &[bool]) -> bool
+/// Whether a mark is set.
+pub(crate) fn is_some_set(marks: &[bool]) -> bool
     ensures { result ≡ list_any (λ (mark : Bool). mark) marks.now }
 {
     marks.iter().any(|mark| *mark)
@@ -218,32 +200,37 @@ impl RowMarks {
         Ok(RowMarks { rows, marks })
     }
 
-    // For each of some marks of rows whether it is set and the row has a literal.
-    fn set_with(
+    // Keeps of some marks of rows those of rows that have a literal.
+    fn keep_with(
         &self,
         alloc: Global,
-        held: &[bool],
+        held: &mut [bool],
         literal: &Literal,
-    ) -> Result<Vec<bool>, AllocError>
-        ensures { IfOk result (λ made. made.items ≡ in_both held.now
+    ) -> Result<(), AllocError>
+        requires { length held.old ≡ length self.now }
+        ensures { OnOk result (held.new ≡ zip2 both held.old
             (map (list_any (same_literal literal.now)) self.now)) }
     {
         match self.marks.get(literal) {
             None => {
                 let marks = marks_of(alloc, self.rows.as_slice(), literal)?;
-                set_in_both(alloc, held, marks.as_slice())
+                keep_common(held, marks.as_slice());
+                Ok(())
             }
-            Some(marks) => set_in_both(alloc, held, marks.as_slice()),
+            Some(marks) => {
+                keep_common(held, marks.as_slice());
+                Ok(())
+            }
         }
     }
 
-    // For each row whether it has all literals of a cube.
-    fn holders(&self, alloc: Global, cube: &[Literal]) -> Result<Vec<bool>, AllocError>
+    /// For each row whether it has all literals of a cube.
+    pub(crate) fn holders(&self, alloc: Global, cube: &[Literal]) -> Result<Vec<bool>, AllocError>
         ensures { IfOk result (λ held. held.items ≡ map (has_all cube.now) self.now) }
     {
         let mut held = set_marks(alloc, self.rows.len())?;
         for literal in cube {
-            held = self.set_with(alloc, held.as_slice(), literal)?;
+            self.keep_with(alloc, held.as_mut_slice(), literal)?;
         }
         Ok(held)
     }

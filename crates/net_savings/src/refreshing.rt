@@ -47,7 +47,7 @@ pub(crate) fn refresh<R: Row>(
     let touched = mem::replace(&mut kept.touched, IndexSet::new(alloc));
     let fresh = mem::replace(&mut kept.fresh, Vec::new(alloc));
     let changed = mem::replace(&mut kept.changed, Vec::new(alloc));
-    let index = RowIndex::of_readers(alloc, work, rule, fresh.as_slice())?;
+    let index = RowIndex::of_readers(alloc, work, fresh.as_slice())?;
     let names = touched.as_slice();
     renew_touched(alloc, work, &index, name, &mut kept.ranked, changed, names)?;
     list_places(

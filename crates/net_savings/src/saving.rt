@@ -3,10 +3,11 @@
 //!
 //! Source: Brayton, Rudell, Sangiovanni-Vincentelli and Wang, "MIS: A Multiple-Level Logic
 //! Optimization System" (1987): the value of a divisor is the literals that it saves. A table can
-//! be divided only if it reads all names of the cover, so only fanouts of one of them, the one with
-//! the fewest, are looked at, and divided only if their rows do not tell what they lose
-//! (`by_rows`). Callers rely on `IsSaved`: the exact number, and none exactly if nothing is saved or
-//! a table would have more than `MAX_INPUTS` inputs.
+//! be divided only if it reads all names of the cover and has a row for each of its cubes. So only
+//! the tables that the index of rows (`rows`) finds are looked at, or, without it, the fanouts of
+//! the name that has the fewest; they are divided only if their rows do not tell what they lose
+//! (`by_rows`). Callers rely on `IsSaved`: the exact number, and none exactly if nothing is saved
+//! or a table would have more than `MAX_INPUTS` inputs.
 
 ghost use Rattle.std.specs.Prelude.{◌≡◌, ℕ, ◌+◌, ◌-◌, ◌≤◌, ◌<◌, ltb, ◌&&◌, ◌⊎◌, true, false, Option, Some, List, [], ◌∷◌, length, IfOk, IfSome, MatchOption};
 ghost use Rattle.std.specs.List.{list_all};
@@ -22,7 +23,7 @@ ghost use Rattle.net_core.specs.Fresh.{IsNewName};
 ghost use Rattle.net_core.specs.Tables.{named, IsOverInputs};
 ghost use Rattle.net_work.specs.Placed.{standing, circuit_of, table_at};
 ghost use Rattle.net_candidates.specs.Candidates.{literals_in};
-ghost use Rattle.net_savings.specs.Indexed.{IsLostIn, IsIndex};
+ghost use Rattle.net_savings.specs.Indexed.{IsLostIn, IsIndex, AreAll};
 ghost use Rattle.net_savings.specs.Meeting.{is_apart};
 ghost use Rattle.net_savings.specs.Saving.{IsLoss, AreLosses, IsSaved};
 
@@ -114,6 +115,25 @@ pub fn places_for<R: Row>(
             Ok(readers.into_vec())
         }
     }
+}
+
+// Indices, each once, which include those of all tables that a cover divides.
+fn divided_places<R: Row>(
+    alloc: Global,
+    work: &WorkingNetwork<R>,
+    index: &RowIndex,
+    cover: &[Cube],
+) -> Result<Vec<usize>, AllocError>
+    requires index { IsIndex work.now index.now }
+    requires some { 1 ≤ literals_in cover.now }
+    ensures { IfOk result (λ places. AreAll cover.now work.now.slots places.items) }
+{
+    if index.knows_all(cover) {
+        let met = index.met_places(alloc, cover)?;
+        return Ok(met);
+    }
+    let readers = places_for(alloc, work, cover)?;
+    Ok(readers)
 }
 
 // Whether a table has too many inputs, and a name is one of them.
@@ -264,15 +284,17 @@ fn lost_by_rows<R: Row>(
 fn lost_by_tables<R: Row>(
     alloc: Global,
     work: &WorkingNetwork<R>,
+    index: &RowIndex,
     name: &Name,
     cover: &[Cube],
 ) -> Result<Option<u128>, AllocError>
     requires sound { IsSound (circuit_of work.now) }
     requires free { IsNewName (circuit_of work.now) name.now }
+    requires index { IsIndex work.now index.now }
     requires some { 1 ≤ literals_in cover.now }
     ensures { IfOk result (IsLostIn (standing work.now.slots) name.now cover.now) }
 {
-    let places = places_for(alloc, work, cover)?;
+    let places = divided_places(alloc, work, index, cover)?;
     let lost = losses_at(alloc, work, name, cover, places.as_slice())?;
     Ok(lost)
 }
@@ -298,7 +320,7 @@ fn lost_in_all<R: Row>(
             return lost_by_rows(alloc, work, index, name, cover, cube);
         }
     }
-    lost_by_tables(alloc, work, name, cover)
+    lost_by_tables(alloc, work, index, name, cover)
 }
 
 /// The number of literals that a cover saves if it is extracted under a new name; none if it saves

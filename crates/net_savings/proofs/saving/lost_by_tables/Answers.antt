@@ -1,11 +1,9 @@
 use Rattle.std.proofs.Common.{sym, subst}
-use Rattle.net_savings.proofs.Losing.{AreAll}
-use Rattle.net_savings.proofs.Summing.{rising_once}
+use Rattle.net_savings.specs.Indexed.{AreAll}
 use Rattle.net_savings.proofs.Told.{all_losses}
 use Rattle.net_savings.proofs.saving.lost_by_tables.Goals as goal
 
 pub returns : goal.returns
 returns g c =
     all_losses c.args.work.now c.args.name.now c.args.cover.now c.as_slice.result.now c.in_ok-lost.lost
-    (subst (AreAll c.args.cover.now c.args.work.now.slots) (sym c.as_slice.ensures.value) (record { once = rising_once c.in_ok-places.places.items c.in_ok-places.ensures.rising; all = c.in_ok-places.ensures.all }))
-    c.in_ok-lost.ensures
+    (subst (AreAll c.args.cover.now c.args.work.now.slots) (sym c.as_slice.ensures.value) c.in_ok-places.ensures) c.in_ok-lost.ensures
