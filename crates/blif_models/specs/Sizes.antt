@@ -1,6 +1,6 @@
--- The sizes of the models of a file, as a table that is made by rounds. Source: BLIF appendix of the
--- SIS report (UCB/ERL M92/41), `.subckt`: the model's body stands for the line. The limit is the
--- project's own; a size counts up to one more than it allows.
+-- The sizes of the models of a file, as a table that is made by rounds. Source: BLIF appendix of
+-- the SIS report (UCB/ERL M92/41), `.subckt`: the model's body stands for the line. The limit is
+-- the project's own; a size counts up to one more than it allows.
 use Rattle.std.specs.Prelude.{ℕ, ◌+◌, min, nat_lt, Option, List, [], map, length, sum_by, slice_index_or}
 use Rattle.std.specs.List.{range_with_len}
 use Rattle.sis_text.specs.Entries.{Entry}

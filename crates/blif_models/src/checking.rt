@@ -1,7 +1,7 @@
 //! Checks the lines of the models of a file one by one, in file order.
 //!
-//! Source: BLIF appendix of the SIS report (UCB/ERL M92/41). Each model is taken into a draft of its
-//! own; that a name of a model is used again, and that a KISS2 part begins in a later model, is
+//! Source: BLIF appendix of the SIS report (UCB/ERL M92/41). Each model is taken into a draft of
+//! its own; that a name of a model is used again, and that a KISS2 part begins in a later model, is
 //! asked besides. `checked_first` answers the draft of the first model, or the first fault
 //! (`file_fault` of `specs/Reader.antt`). It keeps at most one other draft at a time.
 

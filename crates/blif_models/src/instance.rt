@@ -1,9 +1,9 @@
 //! An instance of a model, and its lines outside of it.
 //!
 //! Source: BLIF appendix of the SIS report (UCB/ERL M92/41), `.subckt`: a formal is its actual.
-//! That any other signal is a path is the project's own. `outside`, `control_outside` and `add_lines`
-//! return exactly what `specs/Flat.antt` defines: a line of a table, a latch or a gate with other
-//! names, a row as it is, and no other line. Formals and controls are looked up in maps.
+//! That any other signal is a path is the project's own. `outside`, `control_outside` and
+//! `add_lines` return exactly what `specs/Flat.antt` defines: a line of a table, a latch or a gate
+//! with other names, a row as it is, and no other line. Formals and controls are looked up in maps.
 
 ghost use Rattle.std.specs.Prelude.{◌≡◌, ◌++◌, ◌∷◌, [], map, IfOk, OnOk};
 ghost use Rattle.circuit_model.specs.Names.{has};

@@ -1,9 +1,9 @@
 //! What is wrong with a file, as a text.
 //!
-//! Source: the wording is the project's own; the faults are those of the readers of BLIF, KISS2 and
-//! genlib. Promised (`specs/Texts.antt`): one text for each fault, appended byte for byte; if memory
-//! runs out, the output stays as it was. Modules: `blif`, `kiss` and `library`, a kind of file each;
-//! `putting`, texts appended to one another.
+//! Source: the wording is the project's own; the faults are those of the readers of BLIF, KISS2
+//! and genlib. Promised (`specs/Texts.antt`): one text for each fault, appended byte for byte; if
+//! memory runs out, the output stays as it was. Modules: `blif`, `kiss` and `library`, a kind of
+//! file each; `putting`, texts appended to one another.
 #![tactic(auto)]
 
 mod blif;
