@@ -50,7 +50,7 @@ use Rattle.alg_tables.proofs.Quotients.{all_test, all_from}
 use Rattle.circuit_tables.specs.Tidy.{IsWide}
 use Rattle.net_savings.specs.Meeting.{is_apart, is_contained, is_met}
 use Rattle.net_savings.specs.Saving.{lost_by, lost_of, lost_at, IsNarrowIn, AreLosses, IsSaved}
-use Rattle.net_savings.specs.Indexed.{AreTold, IsAdded, IsRead, IncludeReaders, Indexes, IsLostIn, IsSpan, rows_in, is_known, AreAll}
+use Rattle.net_savings.specs.Indexed.{AreTold, IsRead, IncludeReaders, Indexes, IsLostIn, IsSpan, rows_in, is_known, AreAll}
 use Rattle.net_savings.specs.declared.rows.RowSpan.{RowSpan}
 use Rattle.net_savings.proofs.ByRows.{both_ways, cube_lost}
 use Rattle.net_savings.proofs.Contained.{apart_different, first_has, later_has, unmet_stays}

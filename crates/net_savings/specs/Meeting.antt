@@ -3,7 +3,7 @@
 -- Source: Brayton, Rudell, Sangiovanni-Vincentelli and Wang, "MIS: A Multiple-Level Logic
 -- Optimization System" (1987): weak division. A cover divides a table only if each of its cubes is
 -- contained in a row of the table.
-use Rattle.std.specs.Prelude.{◌≡◌, ℕ, ◌&&◌, ◌||◌, not, Bool, true, false, Option, Some, None, List, [], ◌∷◌, map, bytes_eq}
+use Rattle.std.specs.Prelude.{◌≡◌, ℕ, ◌&&◌, ◌||◌, not, Bool, true, false, Option, Some, List, [], ◌∷◌, map, bytes_eq}
 use Rattle.std.specs.Global.{Vec}
 use Rattle.std.specs.List.{list_any, list_all}
 use Rattle.circuit_model.specs.declared.circuit.Table.{Table}

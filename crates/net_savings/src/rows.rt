@@ -199,21 +199,6 @@ fn add_inputs<R: Row>(
     Ok(sets)
 }
 
-// Whether the tables that read some names are many more than those that read one of them; no clause
-// says so.
-fn are_spread<R: Row>(
-    alloc: Global,
-    work: &WorkingNetwork<R>,
-    names: &[Name],
-) -> Result<bool, AllocError> {
-    let mut total: usize = 0;
-    for name in names {
-        total = total.saturating_add(work.reader_count(name));
-    }
-    let places = readers_of(alloc, work, names)?;
-    Ok(total.saturating_mul(FEW_READERS) < places.len().saturating_mul(names.len()))
-}
-
 // The number of rows of the tables at some indices; no clause says so.
 fn row_count<R: Row>(work: &WorkingNetwork<R>, places: &[usize]) -> usize {
     let mut count: usize = 0;
@@ -225,18 +210,34 @@ fn row_count<R: Row>(work: &WorkingNetwork<R>, places: &[usize]) -> usize {
     count
 }
 
+// Whether so many rows, those of all tables that read some names, are many more than those of the
+// tables that read one of them; no clause says so.
+fn are_spread<R: Row>(
+    alloc: Global,
+    work: &WorkingNetwork<R>,
+    names: &[Name],
+    rows: usize,
+) -> Result<bool, AllocError> {
+    let mut total: usize = 0;
+    for name in names {
+        let readers = work.readers(alloc, name)?;
+        total = total.saturating_add(row_count(work, readers.into_vec().as_slice()));
+    }
+    Ok(total.saturating_mul(FEW_READERS) < rows.saturating_mul(names.len()))
+}
+
 // Whether an index of the rows that read some names costs more than it is worth; no clause says so.
 fn is_costly<R: Row>(
     alloc: Global,
     work: &WorkingNetwork<R>,
     names: &[Name],
 ) -> Result<bool, AllocError> {
-    if are_spread(alloc, work, names)? {
-        return Ok(true);
-    }
     let places = readers_of(alloc, work, names)?;
     let rows = row_count(work, places.as_slice());
-    Ok(MANY_PAIRS < rows.saturating_mul(names.len()))
+    if MANY_PAIRS < rows.saturating_mul(names.len()) {
+        return Ok(true);
+    }
+    are_spread(alloc, work, names, rows)
 }
 
 // Inputs of the tables at some indices that many tables or many rows read; none if an index of
