@@ -11,7 +11,8 @@ use Rattle.cover_names.specs.Literals.{NamedCover}
 use Rattle.net_core.proofs.Lookups.{get_set_other}
 use Rattle.net_work.specs.Placed.{Placed, joined, table_at, with_slot}
 use Rattle.net_extract.specs.Dividing.{divided_slot, turned_at, with_divided}
-use Rattle.net_savings.proofs.Losing.{AreAll, stays}
+use Rattle.net_savings.specs.Indexed.{AreAll}
+use Rattle.net_savings.proofs.Losing.{stays}
 use Rattle.net_savings.proofs.Summing.{in_has}
 
 -- an index among indices

@@ -32,7 +32,8 @@ use Rattle.net_savings.specs.declared.fault.SavingsFault.TheVariants.{ManyKernel
 use Rattle.net_extract.specs.declared.fault.ExtractFault.{ExtractFault}
 use Rattle.net_extract.specs.declared.fault.ExtractFault.TheVariants.{KernelLimit, NodeLimit, Memory}
 use Rattle.net_savings.proofs.Summing.{rising_once}
-use Rattle.net_savings.proofs.Losing.{AreAll}
+use Rattle.net_savings.specs.Indexed.{AreAll}
+use Rattle.net_savings.proofs.Losing.{all_readers}
 use Rattle.net_extract.proofs.Places.{divided_all}
 use Rattle.sis_base.specs.declared.limits.TheConstants.{MAX_NODES}
 
@@ -61,7 +62,7 @@ module _ (name : List ℕ) (cover : NamedCover) where
     name = name;
     free = added.free;
     room = added.room;
-    made = divided_circuit places before between now (record { once = rising_once places rising; all = all }) within added.is is;
+    made = divided_circuit places before between now (all_readers cover before.slots places (rising_once places rising) all) within added.is is;
     bounded = λ all. bounded (added_bounded before between added all);
   }
 
