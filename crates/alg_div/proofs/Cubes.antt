@@ -1,7 +1,9 @@
 -- Products of cubes and cubes without some literals, column by column.
-use Rattle.std.proofs.Common.{◌≡◌, ℕ, ◌+◌, ◌<◌, zero, suc, Bool, Option, Some, None, List, [], ◌∷◌, ◌++◌, length, get_or, take, drop, set, replicate, refl, sym, ap, ◌∙◌, arith, inl, inr, ◌⊎◌}
+use Rattle.std.proofs.Common.{◌≡◌, ℕ, ◌+◌, ◌<◌, zero, suc, Bool, true, false, Option, Some, None, List, [], ◌∷◌, ◌++◌, length, get_or, take, drop, set, replicate, refl, sym, ap, ◌∙◌, arith, inl, inr, ◌⊎◌}
+use Rattle.std.proofs.lemmas.Bool.{and_from}
 use Rattle.std.proofs.lemmas.List.{ext_get_or}
-use Rattle.cube_cover.specs.Literals.{literal_product}
+use Rattle.cube_cover.specs.Covers.{product_of, without_of}
+use Rattle.cube_cover.specs.Literals.{literal_contains, literal_product, literal_without, row_contains}
 use Rattle.alg_div.specs.Cubes.{Has, times}
 use Rattle.alg_div.specs.Steps.{without, strip, support_from}
 use Rattle.alg_div.specs.Quotient.{IsApart}
@@ -22,6 +24,29 @@ unfolding times
 length-times [] k e = sym e
 length-times (x ∷ xs) [] e = refl
 length-times (x ∷ xs) (y ∷ ys) e = ap suc (length-times xs ys (omega arith))
+
+-- the product of rows of one width, by literals
+pub product_times : (c k : List (Option Bool)) → length c ≡ length k → product_of c k ≡ times c k
+unfolding times product_of
+product_times [] [] e = refl
+product_times [] (y ∷ ys) e = absurd (omega arith)
+product_times (x ∷ xs) [] e = absurd (omega arith)
+product_times (None ∷ xs) (y ∷ ys) e = ap (λ (l : List (Option Bool)). y ∷ l) (product_times xs ys (omega arith))
+product_times (Some b ∷ xs) (y ∷ ys) e = ap (λ (l : List (Option Bool)). Some b ∷ l) (product_times xs ys (omega arith))
+
+without_turned : (x mask : Option Bool) → literal_without x mask ≡ without mask x
+without_turned x None = refl
+without_turned x (Some b) = refl
+
+-- a row without the literals of a mask of its width
+pub without_strip : (r v : List (Option Bool)) → length r ≡ length v → without_of r v ≡ strip v r
+unfolding strip without_of
+without_strip [] [] e = refl
+without_strip [] (y ∷ ys) e = absurd (omega arith)
+without_strip (x ∷ xs) [] e = absurd (omega arith)
+without_strip (x ∷ xs) (y ∷ ys) e =
+    ap (λ (z : Option Bool). z ∷ without_of xs ys) (without_turned x y)
+    ∙ ap (λ (l : List (Option Bool)). without y x ∷ l) (without_strip xs ys (omega arith))
 
 without_none : (x : Option Bool) → without x None ≡ None
 without_none None = refl
@@ -107,3 +132,28 @@ fill_more xs ys i d h e = let n : suc i ≡ i + 1 = omega arith in fill-suc xs y
 pub support-more : (v : List (Option Bool)) (rows : List (List (Option Bool))) (row : List (Option Bool)) (rest : List (List (Option Bool))) → rows ≡ row ∷ rest → support_from (times v row) rest ≡ support_from v rows
 unfolding support_from
 support-more v rows row rest e = ap (λ (x : List (List (Option Bool))). support_from v x) (sym e)
+
+bit_contains : (bit : Bool) → literal_contains (Some bit) (Some bit) ≡ true
+bit_contains true = refl
+bit_contains false = refl
+
+literal_of_product : (literal other : Option Bool)
+    → ((bit : Bool) → other ≡ Some bit → literal ≡ None)
+    → literal_contains other (literal_product literal other) ≡ true
+literal_of_product literal None apart = refl
+literal_of_product literal (Some bit) apart =
+    ap (λ (x : Option Bool). literal_contains (Some bit) (literal_product x (Some bit)))
+    (apart bit refl) ∙ bit_contains bit
+
+-- the product of a cube and a row has all literals of the row, if the cube has none in its columns
+pub product_has : (cube row : List (Option Bool))
+    → ((i : ℕ) (bit : Bool) → get_or row i None ≡ Some bit → get_or cube i None ≡ None)
+    → row_contains row (times cube row) ≡ true
+unfolding row_contains times
+product_has cube [] apart = refl
+product_has [] (Some bit ∷ row) apart =
+    and_from _ _ (bit_contains bit) (product_has [] row (λ i bit e. refl))
+product_has [] (None ∷ row) apart = product_has [] row (λ i bit e. refl)
+product_has (literal ∷ cube) (other ∷ row) apart =
+    and_from _ _ (literal_of_product literal other (apart 0))
+    (product_has cube row (λ i. apart (suc i)))

@@ -7,7 +7,7 @@ use Rattle.sis_base.specs.Rows.{HasWidth}
 use Rattle.alg_div.specs.Cubes.{Has, times, products_by, products, row_eq}
 use Rattle.alg_div.specs.Quotient.{IsTerm, Rises, IsQuotient, others, IsRemainder}
 use Rattle.alg_div.proofs.Lists.{bool_cases, Has-append, is_some-position, has-position, one-row}
-use Rattle.alg_div.proofs.Cubes.{times_none, get_or-times, ext}
+use Rattle.alg_div.proofs.Cubes.{times_none, get_or-times, length-times, ext}
 use Rattle.alg_div.proofs.Terms.{width-has, width-from}
 
 -- the others of a list that is read in turn
@@ -140,3 +140,10 @@ pub quotient-moved : (w w' : ℕ) (f f' d d' q q' : List (List (Option Bool))) �
 quotient-moved w w' f f' d d' q q' a b c e h =
     subst (λ (x : List (List (Option Bool))). IsQuotient w' f' d' x) e
     (subst (λ (x : List (List (Option Bool))). IsQuotient w' f' x q) c (subst (λ (x : List (List (Option Bool))). IsQuotient w' x d q) b (subst (λ (n : ℕ). IsQuotient n f d q) a h)))
+
+-- products have the width of their factors
+pub products-wide : (w : ℕ) (q d : List (List (Option Bool))) → HasWidth w q → HasWidth w d → HasWidth w (products q d)
+products-wide w q d wide divisor = width-from w (products q d) (λ r m.
+    let (c, k, cube, row, e) = products-has q d r m in
+    let long : length c ≡ w = width-has w q c wide cube in
+    ap length e ∙ length-times c k (long ∙ sym (width-has w d k divisor row)) ∙ long)

@@ -103,6 +103,17 @@ position-push n row (first ∷ rows) last = cases (row_eq row first) (position-p
     cases true rest = refl
     cases false rest = let e : n + 1 + length rows ≡ n + length (first ∷ rows) = omega arith in rest ∙ ap (λ (m : ℕ). or_last (position_from (row_eq row) (n + 1) rows) (row_eq row last) m) e
 
+-- the first number, where the first row is equal, and where it is not
+pub position-first : (n : ℕ) (row first : List (Option Bool)) (rows rest : List (List (Option Bool))) → rows ≡ first ∷ rest → row ≡ first → Some n ≡ position_from (row_eq row) n rows
+position-first n row first rows rest e same =
+    sym (ap (λ (x : List (List (Option Bool))). position_from (row_eq row) n x) e ∙ ap (λ (t : Bool). if t then Some n else position_from (row_eq row) (n + 1) rest) (eq_from_same row first same))
+
+pub position-next : (n : ℕ) (row first : List (Option Bool)) (rows rest : List (List (Option Bool))) → rows ≡ first ∷ rest → (row ≡ first → ⊥) → position_from (row_eq row) (n + 1) rest ≡ position_from (row_eq row) n rows
+position-next n row first rows rest e differ =
+    sym (ap (λ (x : List (List (Option Bool))). position_from (row_eq row) n x) e
+    ∙ ap (λ (t : Bool). if t then Some n else position_from (row_eq row) (n + 1) rest)
+    (elim (bool_cases (row_eq row first)) as (λ _. row_eq row first ≡ false) [ inl t ↦ absurd (differ (same_from_eq row first t)) | inr f ↦ f ]))
+
 -- the next element of a list that is read in turn
 pub map-drop : {X Z : Type 0} (f : X → Z) (xs : List X) (i : ℕ) (x : X) → i < length xs → x ≡ get_or xs i x → map f (drop i xs) ≡ f x ∷ map f (drop (i + 1) xs)
 map-drop f xs i x h e = let n : suc i ≡ i + 1 = omega arith in drop-suc f xs i x h e ∙ ap (λ (k : ℕ). f x ∷ map f (drop k xs)) n

@@ -1,16 +1,16 @@
 -- The cubes of a quotient: the cube from which a row of f comes, and the list of them over the
 -- rows.
-use Rattle.std.proofs.Common.{◌≡◌, ℕ, ◌+◌, ◌<◌, ◌≤◌, Bool, Option, Some, None, List, [], ◌∷◌, ◌++◌, length, get_or, replicate, refl, sym, ap, ◌∙◌, subst, arith, inl, inr, ◌⊎◌}
+use Rattle.std.proofs.Common.{◌≡◌, ℕ, ◌+◌, ◌<◌, ◌≤◌, Bool, false, Option, Some, None, List, [], ◌∷◌, ◌++◌, length, get_or, replicate, refl, sym, ap, ◌∙◌, subst, arith, inl, inr, ◌⊎◌, true≢false}
 use Rattle.std.proofs.lemmas.Bool.{cases_lt}
 use Rattle.sis_base.specs.Rows.{HasWidth}
 use Rattle.alg_div.specs.Cubes.{Has, times, row_eq}
 use Rattle.alg_div.specs.Steps.{without, strip, support, IsTermAt, IsTheTerm, IsPart}
 use Rattle.alg_div.specs.Quotient.{IsApart, IsTerm, Rises, IsQuotientBy, IsQuotient}
 use Rattle.alg_div.proofs.Lists.{Has-left, Has-right, Has-append, Has-at, position-number, position-same, position-some}
-use Rattle.alg_div.proofs.Cubes.{times_none, get_or-times, get_or-strip, length-strip, ext, get_or-dashes, untouched, support-apart, length-support}
+use Rattle.alg_div.proofs.Cubes.{times_none, get_or-times, get_or-strip, length-strip, ext, get_or-dashes, product_has, untouched, support-apart, length-support}
 use Rattle.std.proofs.lemmas.List.{length-replicate}
 use Rattle.std.specs.List.{position_from}
-use Rattle.cube_cover.specs.Literals.{literal_product}
+use Rattle.cube_cover.specs.Literals.{literal_product, row_contains}
 
 some_none : (b : Bool) (x : Option Bool) → x ≡ Some b → x ≡ None → ⊥
 some_none b x h k = cc
@@ -99,6 +99,14 @@ pub term-missing : (w : ℕ) (f d : List (List (Option Bool))) (k r : List (Opti
     → (position_from (row_eq (times (strip (support w d) r) k)) 0 f ≡ Some i → ⊥) → IsTheTerm w f k d i None
 term-missing w f d k r i m e len miss c t =
     miss (subst (λ (x : List (Option Bool)). position_from (row_eq (times x k)) 0 f ≡ Some i) (sym (term-only w f d k r c i m e len t)) t.1)
+
+-- no term where the row lacks a literal of the cube k
+pub term-holds : (w : ℕ) (f d : List (List (Option Bool))) (k r : List (Option Bool)) (i : ℕ) → Has k d → r ≡ get_or f i [] → row_contains k r ≡ false → IsTheTerm w f k d i None
+term-holds w f d k r i m e lacks c t =
+    true≢false (sym (product_has c k (t.0.apart k m)) ∙ ap (λ (x : List (Option Bool)). row_contains k x) (sym (e ∙ position-same 0 i (times c k) f (t.1 ∙ ap (λ (n : ℕ). Some n) plus))) ∙ lacks)
+  where
+    plus : i ≡ 0 + i
+    plus = omega arith
 
 pub term-lacking : (w : ℕ) (f d : List (List (Option Bool))) (k r : List (Option Bool)) (i : ℕ) → Has k d → r ≡ get_or f i [] → length r ≡ w
     → (((x : List (Option Bool)) → Has x d → Has (times (strip (support w d) r) x) f) → ⊥) → IsTheTerm w f k d i None

@@ -2,7 +2,7 @@
 -- their first positions. No public clause of `divide` needs these definitions; `literals_in` and
 -- `strip` occur in those of the calls on rows as vectors. Source: Brayton, Rudell,
 -- Sangiovanni-Vincentelli, Wang, "MIS: A Multiple-Level Logic Optimization System" (1987).
-use Rattle.std.specs.Prelude.{◌≡◌, ℕ, ◌<◌, Bool, if◌then◌else◌, is_some, true, Option, Some, None, List, [], ◌∷◌, map, replicate}
+use Rattle.std.specs.Prelude.{◌≡◌, ℕ, ◌<◌, Bool, if◌then◌else◌, IfSome, Option, Some, None, List, [], ◌∷◌, map, replicate}
 use Rattle.std.specs.HashMap.{HashMap, get_by}
 use Rattle.std.specs.declared.vec.Vec.{Vec}
 use Rattle.std.specs.List.{position_from}
@@ -42,9 +42,13 @@ abbrev pub or_last : Option ℕ → Bool → ℕ → Option ℕ
 or_last (Some i) t n = Some i
 or_last None t n = if t then Some n else None
 
--- the map has all products of a cube with the rows
-abbrev pub HasProducts : {Y S : Type 0} → HashMap (Vec (Option Bool) Y) ℕ S → List (Option Bool) → List (List (Option Bool)) → Type 0
-HasProducts index cube rows = (row : List (Option Bool)) → Has row rows → is_some (number_in index (times cube row)) ≡ true
+-- the map, if there is one, has each row at its first index
+abbrev pub AreFirst : {Y S : Type 0} → Option (HashMap (Vec (Option Bool) Y) ℕ S) → List (List (Option Bool)) → Type 0
+AreFirst indices rows = IfSome indices (λ index. (row : List (Option Bool)) → number_in index row ≡ position_from (row_eq row) 0 rows)
+
+-- all products of a cube with the given ones are rows of f
+abbrev pub HasProducts : List (List (Option Bool)) → List (Option Bool) → List (List (Option Bool)) → Type 0
+HasProducts f cube rows = (row : List (Option Bool)) → Has row rows → Has (times cube row) f
 
 -- a cube of the quotient whose product with k has its first occurrence in f at index i
 abbrev pub IsTermAt : ℕ → List (List (Option Bool)) → List (Option Bool) → List (List (Option Bool)) → ℕ → List (Option Bool) → Type 0

@@ -6,8 +6,7 @@ ghost use Rattle.cube_cover.specs.Covers.{Shape};
 ghost use Rattle.alg_div.specs.Cubes.{Has, products};
 ghost use Rattle.alg_div.specs.Quotient.{IsQuotient, IsRemainder};
 
-use crate::literals::{all_literals_of, cover_of};
-use crate::steps::{others_of, products_of, quotient_of};
+use crate::steps::{indices_for, others_of, products_of, quotient_of};
 use cube_cover::{Cover, Row};
 use std::alloc::{AllocError, Global};
 
@@ -27,14 +26,15 @@ pub fn divide<R: Row>(
     ensures remainder { IfOk result (λ both. IsRemainder f.now.rows d.now.rows both.0.rows
         both.1.rows) }
 {
+    // by this call the divisor's rows are known to have its width
+    let _of_one_width = d.rows();
+    let terms = quotient_of(alloc, f, d)?;
+    let taken = products_of(alloc, terms.as_slice(), d)?;
+    let indices = indices_for(alloc, taken.as_slice(), f.rows().len())?;
+    let rest = others_of(alloc, f, taken.as_slice(), &indices)?;
     let width = f.width();
-    let rows = all_literals_of(alloc, f.rows())?;
-    let cubes = all_literals_of(alloc, d.rows())?;
-    let terms = quotient_of(alloc, width, rows.as_slice(), cubes.as_slice())?;
-    let taken = products_of(alloc, width, terms.as_slice(), cubes.as_slice())?;
-    let rest = others_of(alloc, rows.as_slice(), taken.as_slice())?;
-    let quotient = cover_of(alloc, width, terms.as_slice())?;
-    let remainder = cover_of(alloc, width, rest.as_slice())?;
+    let quotient = Cover::of(width, terms);
+    let remainder = Cover::of(width, rest);
     Ok((quotient, remainder))
 }
 

@@ -1,13 +1,14 @@
-use Rattle.std.proofs.Common.{Some, sym, ◌∙◌}
-use Rattle.std.specs.HashMap.{UpdatesBy}
-use Rattle.alg_div.specs.Cubes.{row_eq}
+use Rattle.std.proofs.Common.{◌≡◌, Option, Bool, List, ap, sym, ◌∙◌, is_some}
+use Rattle.alg_div.specs.Steps.{number_in}
 use Rattle.alg_div.proofs.Maps.{none_from, added-new, added-old}
 use Rattle.alg_div.proofs.steps.add_number.Goals as goal
 
 pub returns : goal.returns
 returns c =
-    let u : UpdatesBy (λ x y. row_eq x.items y.items) (λ key. row_eq c.args.row.now key.items) c.args.index.now c.insert.new.self (Some c.args.number) = rw (← c.in_ok-key.ensures) c.in_ok-insert.ensures.updates in
-    added-new c.args.index.now c.insert.new.self c.args.row.now c.args.number (none_from _ (sym c.contains_key.ensures ∙ c.if-contains_key.false)) u
+    let has : c.contains_key.result ≡ is_some (number_in c.args.index.now c.args.row.items) = c.contains_key.ensures ∙ ap (λ (x : List (Option Bool)). is_some (number_in c.args.index.now x)) c.as_slice.ensures.value in
+    added-new c.args.index.now c.insert.new.self c.args.row.items c.args.number (none_from _ (sym has ∙ c.if-contains_key.false)) c.in_ok-insert.ensures.updates
 
 pub returns-then-contains_key : goal.returns-then-contains_key
-returns-then-contains_key c = added-old c.args.index.now c.args.row.now c.args.number (sym c.contains_key.ensures ∙ c.if-contains_key.true)
+returns-then-contains_key c =
+    let has : c.contains_key.result ≡ is_some (number_in c.args.index.now c.args.row.items) = c.contains_key.ensures ∙ ap (λ (x : List (Option Bool)). is_some (number_in c.args.index.now x)) c.as_slice.ensures.value in
+    added-old c.args.index.now c.args.row.items c.args.number (sym has ∙ c.if-contains_key.true)

@@ -1,7 +1,8 @@
-use Rattle.std.proofs.Common.{◌≡◌, ◌++◌, drop}
+use Rattle.std.proofs.Common.{◌≡◌, ◌++◌, drop, map}
 use Rattle.alg_div.specs.Cubes.{products_by}
-use Rattle.alg_div.specs.Steps.{literals_in}
 use Rattle.alg_div.proofs.steps.add_products.Given as goal
 
 abbrev pub invariant-loop-row : goal.invariant-loop-row
-invariant-loop-row l = literals_in l.made.items ++ products_by l.cube (literals_in (drop l.row-index l.rows)) ≡ literals_in l.fn.made.items ++ products_by l.cube (literals_in l.rows)
+invariant-loop-row g l =
+    map g.R.Row.literals l.made.items ++ products_by (g.R.Row.literals l.cube) (map g.R.Row.literals (drop l.row-index l.rows))
+    ≡ map g.R.Row.literals l.fn.made.items ++ products_by (g.R.Row.literals l.cube) (map g.R.Row.literals l.rows)

@@ -1,6 +1,7 @@
-use Rattle.std.proofs.Common.{take}
-use Rattle.alg_div.specs.Steps.{HasProducts, literals_in}
+use Rattle.std.proofs.Common.{take, map}
+use Rattle.alg_div.specs.Steps.{HasProducts}
 use Rattle.alg_div.proofs.steps.has_products.Given as goal
 
 abbrev pub invariant-loop-row : goal.invariant-loop-row
-invariant-loop-row l = HasProducts l.index l.cube (literals_in (take l.row-index l.rows))
+invariant-loop-row g l =
+    HasProducts (map g.R.Row.literals l.f) (g.R.Row.literals l.cube) (map g.R.Row.literals (take l.row-index l.d))

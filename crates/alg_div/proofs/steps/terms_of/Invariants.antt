@@ -1,6 +1,8 @@
-use Rattle.std.proofs.Common.{length}
-use Rattle.alg_div.specs.Steps.{IsPart, literals_in}
+use Rattle.std.proofs.Common.{length, map}
+use Rattle.alg_div.specs.Steps.{IsPart}
 use Rattle.alg_div.proofs.steps.terms_of.Given as goal
 
 abbrev pub invariant-loop-number : goal.invariant-loop-number
-invariant-loop-number l = IsPart (length l.mask) (literals_in l.f) l.first (literals_in l.d) l.number (literals_in l.terms.items)
+invariant-loop-number g l =
+    IsPart (length (g.R.Row.literals l.mask)) (map g.R.Row.literals l.f) (g.R.Row.literals l.first)
+    (map g.R.Row.literals l.d) l.number (map g.R.Row.literals l.terms.items)
