@@ -32,5 +32,6 @@ pub use cubes::cubes_of;
 pub use fault::ListFault;
 pub use others::shared_with;
 pub use own::own_candidates;
+pub use parts::has_literal;
 pub use rule::Rule;
 pub use sharers::is_shared;

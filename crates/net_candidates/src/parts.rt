@@ -12,11 +12,18 @@ use cover_names::{Cube, Literal, NamedCover, sorted_cover};
 use sis_base::{Copied, Sequence};
 use std::alloc::{AllocError, Global};
 
+// Whether two literals are the same; names are compared only where the bits agree.
+fn are_same(one: &Literal, other: &Literal) -> bool
+    ensures { result ≡ same_literal one.now other.now }
+{
+    one.bit == other.bit && one.name == other.name
+}
+
 /// Whether a cube has a literal.
 pub fn has_literal(cube: &[Literal], literal: &Literal) -> bool
     ensures { result ≡ list_any (same_literal literal.now) cube.now }
 {
-    cube.iter().any(|other| *literal == *other)
+    cube.iter().any(|other| are_same(literal, other))
 }
 
 /// The literals of a cube that another one has too, in the cube's order.

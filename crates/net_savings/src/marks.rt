@@ -17,6 +17,7 @@ ghost use Rattle.net_savings.specs.Meeting.{both, AreMarks};
 use circuit_model::Name;
 use cover_names::{Cube, Literal};
 use indexmap::IndexMap;
+use net_candidates::has_literal;
 use sis_base::Copied;
 use std::alloc::{AllocError, Global};
 use std::marker::Model;
@@ -40,13 +41,6 @@ impl Model for RowMarks {
     ghost view = { λ r. r.rows.items };
 
     ghost invariant = { λ r. AreMarks r.rows.items (get same_literal r.marks) };
-}
-
-// Whether a cube has a literal.
-fn has_literal(cube: &[Literal], literal: &Literal) -> bool
-    ensures { result ≡ list_any (same_literal literal.now) cube.now }
-{
-    cube.iter().any(|other| *literal == *other)
 }
 
 // For each of some rows whether it has a literal.
