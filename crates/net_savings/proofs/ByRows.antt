@@ -7,20 +7,20 @@ use Rattle.std.proofs.lemmas.Bool.{and_parts, and_from, false≢true}
 use Rattle.std.proofs.lemmas.List.{length-map, length-append}
 use Rattle.std.proofs.lemmas.List.Elements.{filter-append}
 use Rattle.std.proofs.lemmas.List.Sums.{sum_by-cons}
-use Rattle.std.proofs.lemmas.Option.{none-some}
-use Rattle.sis_base.specs.Rows.{HasWidth, agrees}
+use Rattle.sis_base.specs.Rows.{HasWidth}
 use Rattle.circuit_model.specs.Counts.{literals_of_table}
 use Rattle.circuit_model.specs.Names.{has, all_different}
 use Rattle.circuit_model.specs.declared.circuit.Table.{Table}
 use Rattle.cube_cover.specs.Literals.{literal_product, literal_contains, row_contains}
 use Rattle.alg_div.specs.Cubes.{Has, times, row_eq}
 use Rattle.alg_div.specs.Steps.{without, strip, support, support_from}
-use Rattle.alg_div.proofs.Lists.{Has-append, Has-map, map-take, same_from_eq, eq_from_same}
+use Rattle.alg_div.proofs.Cubes.{product_has}
+use Rattle.alg_div.proofs.Lists.{Has-append, map-take, same_from_eq, eq_from_same}
 use Rattle.alg_div.proofs.Terms.{strip-apart, width-has}
 use Rattle.net_candidates.specs.Spots.{many}
 use Rattle.net_candidates.specs.Candidates.{literals_in}
 use Rattle.net_candidates.proofs.Divisors.{rows_over_literals}
-use Rattle.net_candidates.proofs.Gains.{IsDivided, divided_or_not, divided_closed}
+use Rattle.net_candidates.proofs.Gains.{IsDivided, divided_closed}
 use Rattle.net_candidates.proofs.Products.{literals_in_all}
 use Rattle.net_candidates.proofs.Sums.{AreOnce}
 use Rattle.net_candidates.proofs.TidyLiterals.{table_literals}
@@ -32,13 +32,13 @@ use Rattle.net_core.specs.declared.table.CoverTable.{CoverTable}
 use Rattle.net_core.proofs.Rows.{width_of_characters, all_places_back}
 use Rattle.alg_tables.specs.Dividing.{firsts, is_made, quotient, has_no_cube, divided}
 use Rattle.alg_tables.proofs.Divided.{unread_stays, undivided_stays}
-use Rattle.alg_tables.proofs.Divisions.{AreApart, rows_of, divisor, found}
+use Rattle.alg_tables.proofs.Divisions.{rows_of, divisor, found}
 use Rattle.alg_tables.proofs.Quotients.{has_any}
 use Rattle.alg_tables.proofs.Taken.{characters_wide}
 use Rattle.circuit_tables.specs.Tidy.{IsWide}
 use Rattle.net_savings.specs.Meeting.{is_apart}
 use Rattle.net_savings.specs.Saving.{lost_by, IsLoss}
-use Rattle.net_savings.proofs.Contained.{IsPart, quotient_part, some_cube, apart_different}
+use Rattle.net_savings.proofs.Contained.{apart_different}
 use Rattle.net_savings.proofs.Narrowing.{few_narrow}
 use Rattle.net_savings.proofs.Untouched.{untouched_lost}
 use Rattle.sis_base.specs.declared.limits.TheConstants.{MAX_INPUTS}
@@ -58,14 +58,6 @@ many_next test f xs i x d count one sum below is before one_is sum_is =
     single true e = refl
     single false e = refl
 
-many_some : {X : Type 0} (test : X → Bool) (xs : List X) (x : X) → Has x xs → test x ≡ true → 1 ≤ many test xs
-many_some test [] x m h = absurd m
-many_some {X} test (first ∷ xs) x m h = cases (test first) refl (λ n. many_some test xs x n h)
-  where
-    cases : (b : Bool) → test first ≡ b → (Has x xs → 1 ≤ many test xs) → 1 ≤ length (cond b (first ∷ filter test xs) (filter test xs))
-    cases true e rest = omega arith
-    cases false e rest = elim m as (λ _. 1 ≤ many test xs) [ inl same ↦ absurd (false≢true (sym e ∙ (ap test (sym same) ∙ h))) | inr n ↦ rest n ]
-
 same_many : {X : Type 0} (p q : X → Bool) (xs : List X) → ((x : X) → Has x xs → p x ≡ q x) → many p xs ≡ many q xs
 same_many p q [] same = refl
 same_many {X} p q (x ∷ xs) same = cases (p x) (q x) (same x (inl refl)) (same_many p q xs (λ y m. same y (inr m)))
@@ -82,26 +74,6 @@ both_ways false true to back = back refl
 both_ways false false to back = refl
 
 -- ---- rows that contain a row
-
-agrees_itself : (bit : Bool) → agrees (Some bit) bit ≡ true
-agrees_itself true = refl
-agrees_itself false = refl
-
-contains_itself : (x : Option Bool) → literal_contains x x ≡ true
-contains_itself None = refl
-contains_itself (Some bit) = agrees_itself bit
-
-column_kept : (x y : Option Bool) → ((bit : Bool) → x ≡ Some bit → y ≡ None) → literal_contains x (literal_product y x) ≡ true
-column_kept None y away = refl
-column_kept (Some bit) None away = agrees_itself bit
-column_kept (Some bit) (Some other) away = absurd (none-some other (sym (away bit refl)))
-
-product_contains : (q k : List (Option Bool)) → AreApart q k → row_contains k (times q k) ≡ true
-unfolding times row_contains
-product_contains q [] apart = refl
-product_contains [] (x ∷ k) apart = and_from (literal_contains x x) (row_contains k k) (contains_itself x) (product_contains [] k (λ i bit e. apart (suc i) bit e))
-product_contains (y ∷ q) (x ∷ k) apart =
-    and_from (literal_contains x (literal_product y x)) (row_contains k (times q k)) (column_kept x y (apart 0)) (product_contains q k (λ i bit e. apart (suc i) bit e))
 
 column_restored : (x y : Option Bool) → literal_contains x y ≡ true → literal_product (without x y) x ≡ y
 column_restored None None h = refl
@@ -138,7 +110,7 @@ made_contains width rows k row k_long long m =
     both_ways (is_made width rows k (k ∷ []) row) (row_contains k row)
     (λ h. subst (λ (r : List (Option Bool)). row_contains k r ≡ true)
     (same_from_eq (times q k) row (and_parts (row_eq (times q k) row) (list_all (λ other. list_any (row_eq (times q other)) rows) (k ∷ [])) h).0)
-    (product_contains q k (strip-apart width (k ∷ []) row k (inl refl))))
+    (product_has q k (strip-apart width (k ∷ []) row k (inl refl))))
     (λ h. (let same : times q k ≡ row = subst (λ (s : List (Option Bool)). times (strip s row) k ≡ row) (sym (one_support width k k_long)) (restored k row (k_long ∙ sym long) h) in
     and_from (row_eq (times q k) row) (list_all (λ other. list_any (row_eq (times q other)) rows) (k ∷ [])) (eq_from_same (times q k) row same)
     (and_from (list_any (row_eq (times q k)) rows) true (has_any (times q k) rows (subst (λ (r : List (Option Bool)). Has r rows) (sym same) m)) refl)))
@@ -175,24 +147,6 @@ lost_sum made whole n k lq d e same =
 
 stays_loss : (name : List ℕ) (cover : NamedCover) (table : Table) → divided name true cover table ≡ table → IsLoss name cover (Some table) (Some 0)
 stays_loss name cover table stays = (sym (untouched_lost name cover table stays), inl stays)
-
--- a table none of whose rows contains some cube of the cover
-none_loss : (name : List ℕ) (cover : NamedCover) (table : Table) (cube : Cube) → Has cube cover → many (row_contains (row_over table.inputs cube)) (rows_of name true cover table) ≡ 0
-    → IsLoss name cover (Some table) (Some 0)
-none_loss name cover table cube m none =
-    elim (divided_or_not name true cover table) as (λ _. IsLoss name cover (Some table) (Some 0)) [
-      | inl is ↦ absurd (some is)
-      | inr stays ↦ stays_loss name cover table stays
-    ]
-  where
-    some : IsDivided name true cover table → ⊥
-    some is =
-        let wanted : List (Option Bool) = row_over table.inputs cube in
-        let (q, among) = some_cube (found name true cover table) is.some in
-        let part : IsPart (rows_of name true cover table) q wanted =
-        quotient_part (length table.inputs) (rows_of name true cover table) (divisor name true cover table) q among wanted (Has-map (row_over table.inputs) cube cover m) in
-        let few : 1 ≤ many (row_contains wanted) (rows_of name true cover table) = many_some (row_contains wanted) (rows_of name true cover table) (times q wanted) part.there (product_contains q wanted part.apart) in
-        absurd (omega (arith, few, none))
 
 module _ (name : List ℕ) (cube : Cube) (table : Table) where
   abbrev cover : NamedCover
@@ -261,13 +215,6 @@ module _ {R : Type 0} (table : CoverTable R) where
   rows_back : (name : List ℕ) (some : NamedCover) (output : List ℕ) → rows_of name true some (named output table) ≡ table.cover.rows
   unfolding named
   rows_back name some output = all_places_back table.cover.rows
-
-  pub lacking_loss : (cover : NamedCover) (cube : Cube) (count : ℕ) → Has cube cover → count ≡ many (row_contains (row_over table.inputs cube)) table.cover.rows → count ≡ 0
-      → (name output : List ℕ) → IsLoss name cover (Some (named output table)) (Some 0)
-  unfolding named
-  lacking_loss cover cube count m count_is none name output =
-      none_loss name cover (named output table) cube m
-      (ap (many (row_contains (row_over table.inputs cube))) (rows_back name cover output) ∙ (sym count_is ∙ none))
 
   pub unread_table_loss : (cube : Cube) → list_all (λ (literal : Literal). has table.inputs literal.name) cube ≡ false → (name output : List ℕ) → IsLoss name (cube ∷ []) (Some (named output table)) (Some 0)
   unfolding named

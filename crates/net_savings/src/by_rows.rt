@@ -3,8 +3,8 @@
 //! Source: Brayton, Rudell, Sangiovanni-Vincentelli and Wang, "MIS: A Multiple-Level Logic
 //! Optimization System" (1987): the value of a divisor. Each row that contains the cube loses the
 //! cube's literals and gains one. So a table whose rows are distinct, and that may get one more
-//! input, need not be divided to know what it loses by one cube; and one without such a row loses
-//! nothing. Callers rely on `loss_by_rows`: the number is exact if there is one.
+//! input, need not be divided to know what it loses by one cube. Callers rely on `loss_by_rows`:
+//! the number is exact if there is one.
 
 ghost use Rattle.std.specs.Prelude.{◌≡◌, ℕ, ◌+◌, ◌-◌, ◌*◌, ◌<◌, ◌≤◌, ◌++◌, ◌∷◌, [], true, false, if◌then◌else◌, Some, List, length, map, IsTrue, IfOk, IfSome};
 ghost use Rattle.std.specs.List.{list_all};
@@ -23,7 +23,7 @@ ghost use Rattle.net_savings.specs.Saving.{IsLoss};
 use crate::meeting::is_apart;
 use alg_div::{literals_of, row_of};
 use circuit_model::{Name, has_name};
-use cover_names::{Cube, Literal, row_over};
+use cover_names::{Literal, row_over};
 use cube_cover::{Row, contains_row};
 use indexmap::IndexSet;
 use net_core::CoverTable;
@@ -98,26 +98,6 @@ fn count_rows<R: Row>(
     let columns = row_over(alloc, table.inputs.as_slice(), cube)?;
     let wanted: R = row_of(alloc, columns.as_slice())?;
     count_holders(&wanted, table.cover.rows())
-}
-
-/// Whether a cube of a cover is contained in no row of a table, so that the cover does not divide
-/// it.
-pub(crate) fn lacks_cube<R: Row>(
-    alloc: Global,
-    table: &CoverTable<R>,
-    cover: &[Cube],
-) -> Result<bool, AllocError>
-    requires { IsOverInputs table.now }
-    ensures { IfOk result (λ lacks. IsTrue lacks → (name output : List ℕ) → IsLoss name cover.now
-        (Some (named output table.now)) (Some 0)) }
-{
-    for cube in cover {
-        let count = count_rows(alloc, table, cube.as_slice())?;
-        if count == 0 {
-            return Ok(true);
-        }
-    }
-    Ok(false)
 }
 
 // Adds a row to others, and returns whether it was not among them.

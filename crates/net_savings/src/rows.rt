@@ -337,7 +337,7 @@ impl RowIndex {
     /// Whether the index tells of a cover which tables it divides: all its names are indexed, and
     /// none occurs twice in a cube.
     pub(crate) fn knows_all(&self, cover: &[Cube]) -> bool
-        ensures { IsTrue result → is_known self.now.names.keys cover.now ≡ true }
+        ensures { result ≡ is_known self.now.names.keys cover.now }
     {
         for cube in cover {
             if !is_apart(cube.as_slice()) || !self.knows(cube.as_slice()) {

@@ -27,7 +27,7 @@ ghost use Rattle.net_savings.specs.Indexed.{IsLostIn, IsIndex, AreAll};
 ghost use Rattle.net_savings.specs.Meeting.{is_apart};
 ghost use Rattle.net_savings.specs.Saving.{IsLoss, AreLosses, IsSaved};
 
-use crate::by_rows::{lacks_cube, loss_by_rows, product_of, sum_of};
+use crate::by_rows::{loss_by_rows, product_of, sum_of};
 use crate::meeting::is_apart;
 use crate::rows::RowIndex;
 use alg_tables::{cover_table, divided_table};
@@ -175,9 +175,6 @@ pub(crate) fn loss_of<R: Row>(
     ensures { IfOk result (λ loss. (output : List ℕ)
         → IsLoss name.now cover.now (Some (named output table.now)) loss) }
 {
-    if lacks_cube(alloc, table, cover)? {
-        return Ok(Some(0));
-    }
     if let Some(lost) = loss_by_one(alloc, table, cover)? {
         return Ok(Some(lost));
     }
