@@ -290,8 +290,9 @@ module _ {R : Type 0} where
       rw n (driver_at slots i e h (λ j t x y. let k : suc j ≡ suc i = a (suc j) t x y in omega arith))
 
 -- the next of tables with different names is not one of those before it
-pub next_is_new : (tables : List Table) (i : ℕ) (x : Table) → all_different (outputs_of tables) ≡ true → i < length tables → x ≡ get_or tables i x → has (outputs_of (take i tables)) x.output ≡ false
-next_is_new tables i x d lt e =
-    let parts : tables ≡ take i tables ++ (x ∷ drop (i + 1) tables) = sym (take-append-drop i tables) ∙ ap (λ (zs : List Table). take i tables ++ zs) (drop_more tables i x lt ∙ ap (λ (z : Table). z ∷ drop (i + 1) tables) (sym e)) in
-    let names : outputs_of tables ≡ outputs_of (take i tables) ++ (x.output ∷ outputs_of (drop (i + 1) tables)) = ap outputs_of parts ∙ map-append (λ (t : Table). t.output) (take i tables) (x ∷ drop (i + 1) tables) in
-    apart_parts (outputs_of (take i tables)) (x.output ∷ outputs_of (drop (i + 1) tables)) x.output (ap all_different (sym names) ∙ d) (ap (λ (b : Bool). b || has (outputs_of (drop (i + 1) tables)) x.output) (name_itself x.output))
+pub next_is_new : (made : List Table) (x : Table) (rest : List Table)
+    → all_different (outputs_of (made ++ x ∷ rest)) ≡ true → has (outputs_of made) x.output ≡ false
+next_is_new made x rest d =
+    apart_parts (outputs_of made) (x.output ∷ outputs_of rest) x.output
+    (ap all_different (sym (map-append (λ (t : Table). t.output) made (x ∷ rest))) ∙ d)
+    (ap (λ (b : Bool). b || has (outputs_of rest) x.output) (name_itself x.output))

@@ -38,6 +38,7 @@ use sis_base::limits::MAX_NODES;
 use sis_base::{Copied, Sequence, Whole};
 use std::alloc::{AllocError, Global};
 use std::marker::Model;
+use std::mem;
 
 /// The numbers of inputs, outputs, tables, latches and tables of the don't-care part.
 #[derive(Clone, Copy)]
@@ -98,16 +99,23 @@ impl<R: Row> Model for Network<R> {
     ghost invariant = { λ n. IsSound (record { name = n.name; inputs = n.inputs; outputs = n.outputs; clocks = n.clocks; timing = n.timing; latches = n.latches.items; tables = n.tables; dont_care = n.dont_care }) };
 }
 
-// The tables of a circuit, with their rows as covers, found by their names.
-fn tables_from<R: Row>(alloc: Global, tables: &[Written]) -> Result<NamedTables<R>, AllocError>
-    requires distinct { all_different (outputs_of tables.now) ≡ true }
-    requires shaped { AllByRecursion IsShaped tables.now }
-    ensures { IfOk result (λ made. made ≡ tables.now) }
+// The tables of a circuit, with their rows as covers, found by their names. Each goes as its cover
+// is made, so that a large circuit is not held twice.
+fn tables_from<R: Row>(alloc: Global, tables: Vec<Written>) -> Result<NamedTables<R>, AllocError>
+    requires distinct { all_different (outputs_of tables.items) ≡ true }
+    requires shaped { AllByRecursion IsShaped tables.items }
+    ensures { IfOk result (λ made. made ≡ tables.items) }
 {
     let mut made = NamedTables::new(alloc);
     for written in tables {
-        let table = CoverTable::from_written(alloc, written)?;
-        made.push(alloc, &written.output, table)?;
+        let Written {
+            inputs,
+            output,
+            rows,
+            phase,
+        } = written;
+        let table = CoverTable::over(alloc, inputs, rows.as_slice(), phase)?;
+        made.push(alloc, &output, table)?;
     }
     Ok(made)
 }
@@ -326,9 +334,10 @@ impl<R: Row> Network<R> {
         ensures { IfOk result (λ network. network ≡ circuit) }
     {
         // A whole, so that one call drops it.
-        let whole = Whole { it: circuit };
-        let tables = tables_from(alloc, whole.it.tables.as_slice())?;
-        Ok(Network::with(whole.into_it(), tables))
+        let mut frame = Whole { it: circuit };
+        let written = mem::replace(&mut frame.it.tables, Sequence::new(alloc));
+        let tables = tables_from(alloc, written.into_vec())?;
+        Ok(Network::with(frame.into_it(), tables))
     }
 
     /// Moves the parts out; allocates nothing.

@@ -110,19 +110,36 @@ impl<R: Row> CoverTable<R> {
         })
     }
 
+    // The table over inputs that move over, with the literals of rows of characters.
+    #[tactic(auto, using(crate::proofs::Rows::width_of_characters))]
+    pub(crate) fn over(
+        alloc: Global,
+        inputs: Names,
+        rows: &[Characters],
+        phase: bool,
+    ) -> Result<CoverTable<R>, AllocError>
+        requires { HasCharacters (length inputs) rows.now }
+        ensures { IfOk result (λ table. table ≡ record { inputs = inputs; cover = record
+            { width = length inputs; rows = map places_of rows.now }; phase = phase }) }
+    {
+        let cover = Cover::of(inputs.len(), rows_from(alloc, rows)?);
+        Ok(CoverTable {
+            inputs,
+            cover,
+            phase,
+        })
+    }
+
     /// The table with the inputs, rows and phase of a circuit's table. Each row must have a
     /// character for each input.
-    #[tactic(auto, using(crate::proofs::Rows::width_of_characters), unfolding(crate::specs::Tables::covered))]
+    #[tactic(auto, unfolding(crate::specs::Tables::covered))]
     pub fn from_written(alloc: Global, written: &Table) -> Result<CoverTable<R>, AllocError>
         requires { HasCharacters (length written.now.inputs) written.now.rows }
         ensures { IfOk result (λ table. table ≡ covered written.now) }
     {
-        let rows = rows_from(alloc, written.rows.as_slice())?;
-        Ok(CoverTable {
-            inputs: written.inputs.copy(alloc)?,
-            cover: Cover::of(written.inputs.len(), rows),
-            phase: written.phase,
-        })
+        let inputs = written.inputs.copy(alloc)?;
+        let table = CoverTable::over(alloc, inputs, written.rows.as_slice(), written.phase)?;
+        Ok(table)
     }
 
     /// The table of a circuit that drives the name by this table.

@@ -134,6 +134,8 @@ fn finished<R: Row>(alloc: Global, circuit: Circuit) -> Result<Circuit, AllocErr
     // A whole, so that one call drops it.
     let mut end = Whole { it: begun };
     while let Some(next) = dangling_step(alloc, &end.it)? {
+        // Dropped first, so that no more than two circuits are held.
+        drop(end);
         let further = settled::<R>(alloc, next)?;
         end = Whole { it: further };
     }

@@ -7,12 +7,14 @@ use Rattle.net_core.proofs.network.Network.from_circuit.Goals as goal
 
 pub tables_from-requires-clause-distinct : goal.tables_from-requires-clause-distinct
 tables_from-requires-clause-distinct g c =
-    ap (λ (ts : List Table). all_different (outputs_of ts)) c.as_slice.ensures ∙ tables_differ c.args.circuit c.requires
+    ap (λ (ts : List Table). all_different (outputs_of ts)) (c.into_vec.ensures ∙ c.replace-written.ensures.value)
+    ∙ tables_differ c.args.circuit c.requires
 
 pub with-requires : goal.with-requires
 with-requires g c =
     rw (
       c.into_it.ensures,
       c.in_ok-tables.ensures,
-      c.as_slice.ensures,
+      c.into_vec.ensures,
+      c.replace-written.ensures.value,
     ) c.requires
