@@ -43,11 +43,14 @@ or_last (Some i) t n = Some i
 or_last None t n = if t then Some n else None
 
 -- the map, if there is one, has each row at its first index
-abbrev pub AreFirst : {Y S : Type 0} → Option (HashMap (Vec (Option Bool) Y) ℕ S) → List (List (Option Bool)) → Type 0
-AreFirst indices rows = IfSome indices (λ index. (row : List (Option Bool)) → number_in index row ≡ position_from (row_eq row) 0 rows)
+abbrev pub AreFirst : {Y S : Type 0} → Option (HashMap (Vec (Option Bool) Y) ℕ S)
+    → List (List (Option Bool)) → Type 0
+AreFirst indices rows = IfSome indices (λ index. (row : List (Option Bool))
+    → number_in index row ≡ position_from (row_eq row) 0 rows)
 
 -- all products of a cube with the given ones are rows of f
-abbrev pub HasProducts : List (List (Option Bool)) → List (Option Bool) → List (List (Option Bool)) → Type 0
+abbrev pub HasProducts : List (List (Option Bool)) → List (Option Bool)
+    → List (List (Option Bool)) → Type 0
 HasProducts f cube rows = (row : List (Option Bool)) → Has row rows → Has (times cube row) f
 
 -- a cube of the quotient whose product with k has its first occurrence in f at index i

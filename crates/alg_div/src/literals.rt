@@ -1,5 +1,5 @@
-//! Conversions between rows and vectors of optional literals, which division and the search for
-//! kernels work on. Each conversion keeps literals and order.
+//! Conversions between rows and vectors of optional literals, which the search for kernels works
+//! on. Each conversion keeps literals and order.
 
 ghost use Rattle.std.specs.Prelude.{◌≡◌, ℕ, Bool, Option, None, List, length, map, IfOk};
 ghost use Rattle.sis_base.specs.Rows.{HasWidth};

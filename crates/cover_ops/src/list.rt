@@ -168,7 +168,8 @@ fn with_marked<R: Row>(
     Ok(made)
 }
 
-// Joins the lists of the halves at a column into the list of the whole.
+// Joins the lists of the halves at a column into the list of the whole, which is counted before it
+// is made.
 fn join_halves<R: Row>(
     alloc: Global,
     low: Vec<R>,

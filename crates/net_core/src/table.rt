@@ -119,8 +119,12 @@ impl<R: Row> CoverTable<R> {
         phase: bool,
     ) -> Result<CoverTable<R>, AllocError>
         requires { HasCharacters (length inputs) rows.now }
-        ensures { IfOk result (λ table. table ≡ record { inputs = inputs; cover = record
-            { width = length inputs; rows = map places_of rows.now }; phase = phase }) }
+        ensures { IfOk result (λ table. table ≡ record {
+          inputs = inputs;
+          cover = record
+              { width = length inputs; rows = map places_of rows.now };
+          phase = phase;
+        }) }
     {
         let cover = Cover::of(inputs.len(), rows_from(alloc, rows)?);
         Ok(CoverTable {

@@ -13,8 +13,8 @@ push-requires-clause-new g c =
     let at = c.loop-written in
     let rest = into_iter_items c.next.new.self in
     let whole : at.made ++ c.in-Some.written ∷ rest ≡ c.args.tables.items =
-        ap (λ (ts : List Table). at.made ++ ts) (sym c.in-Some.ensures.steps.0)
-        ∙ (at.invariant.0 ∙ c.into_iter-written-iterator.ensures.into_iter_gives.0) in
+    ap (λ (ts : List Table). at.made ++ ts) (sym c.in-Some.ensures.steps.0)
+    ∙ (at.invariant.0 ∙ c.into_iter-written-iterator.ensures.into_iter_gives.0) in
     next_is_new at.made c.in-Some.written rest
     (ap (λ (ts : List Table). all_different (outputs_of ts)) whole ∙ c.requires.distinct)
 
@@ -26,12 +26,12 @@ loop-written-preserved g c =
     let rest = into_iter_items c.next.new.self in
     let steps : into_iter_items at.written-iterator ≡ written ∷ rest = c.in-Some.ensures.steps.0 in
     let same : c.in_ok-table.table ≡ covered written =
-        rw (c.in_ok-table.ensures, c.as_slice.ensures) refl in
+    rw (c.in_ok-table.ensures, c.as_slice.ensures) refl in
     let last : named written.output c.in_ok-table.table ≡ written =
-        ap (named written.output) same ∙ written_back _ written in (
+    ap (named written.output) same ∙ written_back _ written in (
       rw c.in_ok-push.ensures.ok (append_assoc at.made (named written.output c.in_ok-table.table ∷ []) rest)
-      ∙ (ap (λ (t : Table). at.made ++ t ∷ rest) last
-      ∙ (ap (λ (ts : List Table). at.made ++ ts) (sym steps) ∙ at.invariant.0)),
+          ∙ (ap (λ (t : Table). at.made ++ t ∷ rest) last
+          ∙ (ap (λ (ts : List Table). at.made ++ ts) (sym steps) ∙ at.invariant.0)),
       let was = at.invariant.1 in
           let gone = c.in-Some.ensures.steps.1 in
           let short = ap length steps in
