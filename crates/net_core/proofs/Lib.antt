@@ -5,6 +5,7 @@ pub mod Removals
 pub mod Counting
 pub mod NewNames
 pub mod Tidied
+pub mod Narrowed
 pub mod Sounds
 pub mod Bounds
 pub mod Noted

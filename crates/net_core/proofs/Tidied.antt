@@ -17,7 +17,7 @@ named_tidy {R} table other name =
     let written : Table = named other table in
     ap (λ (rows : List (List Tri)). record (tidied written) { output = name; rows = rows }) (all_characters_back (tidied written).rows) ∙ sym (tidied_renamed written name)
 
-characters_wide : (w : ℕ) (rows : List (List (Option Bool))) → HasWidth w rows → HasCharacters w (map characters_of rows)
+pub characters_wide : (w : ℕ) (rows : List (List (Option Bool))) → HasWidth w rows → HasCharacters w (map characters_of rows)
 unfolding HasWidth
 characters_wide w [] h = tt
 characters_wide w (row ∷ rows) h = (length-map row character_of ∙ h.0, characters_wide w rows h.1)
