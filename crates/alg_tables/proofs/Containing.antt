@@ -1,7 +1,7 @@
 -- A quotient has no cube if some cube of the divisor has literals that no row has all.
-use Rattle.std.proofs.Common.{◌≡◌, ℕ, suc, Bool, true, false, Option, Some, None, List, [], ◌∷◌, get_or, refl, sym, ap, ◌∙◌, inl, inr}
+use Rattle.std.proofs.Common.{◌≡◌, ℕ, Bool, true, false, Option, List, [], ◌∷◌, refl, sym, ap, ◌∙◌, inl, inr}
 use Rattle.std.specs.List.{list_any}
-use Rattle.std.proofs.lemmas.Bool.{and_from, or_left, or_right, false≢true}
+use Rattle.std.proofs.lemmas.Bool.{or_left, or_right, false≢true}
 use Rattle.sis_base.specs.Rows.{HasWidth}
 use Rattle.cube_cover.specs.Literals.{row_contains}
 use Rattle.alg_div.specs.Cubes.{Has, times}

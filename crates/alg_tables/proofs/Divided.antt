@@ -131,54 +131,25 @@ empty_undivided cover table e =
     sym (ap (λ (b : Bool). not (is_over table.inputs cover) || b) e
     ∙ or-true (not (is_over table.inputs cover)))
 
--- another one is the rejoined table in normal form
-pub turned_is : (name : List ℕ) (bit : Bool) (cover : NamedCover) (table : Table)
-    → is_over table.inputs cover ≡ true
-    → has_no_cube (quotient (length table.inputs) (map places_of table.rows)
-    (map (row_over table.inputs) cover)) ≡ false
-    → divided name bit cover table
-    ≡ tidied (rejoined name bit table (map (row_over table.inputs) cover)
-    (quotient (length table.inputs) (map places_of table.rows)
-    (map (row_over table.inputs) cover)))
-unfolding divided
-turned_is name bit cover table over some =
-    ap₂ (λ (a b : Bool). if not a || b then table
-    else tidied (rejoined name bit table (map (row_over table.inputs) cover)
-    (quotient (length table.inputs) (map places_of table.rows)
-    (map (row_over table.inputs) cover)))) over some
-
 module _ {R : Type 0} (table : CoverTable R) (name : List ℕ) (bit : Bool) (cover : NamedCover) where
-  pub unread : (inputs : List (List ℕ)) (answer : Bool) → answer ≡ is_over inputs cover
-      → inputs ≡ table.inputs → answer ≡ false
-      → (output : List ℕ) → divided name bit cover (named output table) ≡ named output table
-  unfolding named
-  unread inputs answer is same lacks output = unread_stays name bit cover (named output table)
-      (ap (λ (xs : List (List ℕ)). is_over xs cover) (sym same) ∙ sym is ∙ lacks)
-
-  quotient_named : (divisor : Shape) (q : List (List (Option Bool))) (output : List ℕ)
+  -- the quotient that the program finds
+  pub quotient_over : (divisor : Shape) (q : List (List (Option Bool)))
       → IsOverInputs table → HasWidth table.cover.width table.cover.rows
       → divisor.rows ≡ map (row_over table.inputs) cover
       → IsQuotient table.cover.width table.cover.rows divisor.rows q
-      → q ≡ quotient (length (named output table).inputs) (map places_of (named output table).rows)
-      (map (row_over (named output table).inputs) cover)
-  unfolding named
-  quotient_named divisor q output over wide same is =
+      → q ≡ quotient (length table.inputs) table.cover.rows (map (row_over table.inputs) cover)
+  quotient_over divisor q over wide same is =
       quotient_found table.cover.width table.cover.rows divisor.rows q wide is
       ∙ ap₂ (λ (n : ℕ) (d : List (List (Option Bool))). quotient n table.cover.rows d) over same
-      ∙ ap (λ (f : List (List (Option Bool))). quotient (length table.inputs) f
-      (map (row_over table.inputs) cover)) (sym (all_places_back table.cover.rows))
 
-  pub undivided : {X : Type 0} (f : X → List (Option Bool)) (xs : List X) (answer : Bool)
-      (divisor : Shape) (q : List (List (Option Bool))) → IsOverInputs table
-      → HasWidth table.cover.width table.cover.rows
-      → divisor.rows ≡ map (row_over table.inputs) cover
-      → IsQuotient table.cover.width table.cover.rows divisor.rows q
-      → map f xs ≡ q → answer ≡ eqb (length xs) 0 → answer ≡ true → (output : List ℕ)
-      → divided name bit cover (named output table) ≡ named output table
-  undivided f xs answer divisor q over wide same is read long none output =
-      undivided_stays name bit cover (named output table)
-      (ap has_no_cube (sym (quotient_named divisor q output over wide same is))
-      ∙ none_of f xs q answer read long ∙ none)
+  -- the quotient of the rows of a cover is that of their characters
+  pub quotient_named : (q : List (List (Option Bool))) (output : List ℕ)
+      → q ≡ quotient (length table.inputs) table.cover.rows (map (row_over table.inputs) cover)
+      → q ≡ quotient_by cover (named output table)
+  unfolding named
+  quotient_named q output is =
+      is ∙ ap (λ (f : List (List (Option Bool))). quotient (length table.inputs) f
+      (map (row_over table.inputs) cover)) (sym (all_places_back table.cover.rows))
 
   -- whether the cover divides the table, as the program computes it
   pub unread_whole : (inputs : List (List ℕ)) (answer : Bool) → answer ≡ is_over inputs cover
@@ -197,7 +168,7 @@ module _ {R : Type 0} (table : CoverTable R) (name : List ℕ) (bit : Bool) (cov
       → map f xs ≡ q → answer ≡ eqb (length xs) 0 → (output : List ℕ)
       → has_no_cube (quotient_by cover (named output table)) ≡ answer
   no_cube f xs answer divisor q over wide same is read long output =
-      ap has_no_cube (sym (quotient_named divisor q output over wide same is))
+      ap has_no_cube (sym (quotient_named q output (quotient_over divisor q over wide same is)))
       ∙ none_of f xs q answer read long
 
   pub empty_whole : {X : Type 0} (f : X → List (Option Bool)) (xs : List X) (answer : Bool)
@@ -225,15 +196,6 @@ module _ {R : Type 0} (table : CoverTable R) (name : List ℕ) (bit : Bool) (cov
       (subst (λ (n : ℕ). HasWidth n table.cover.rows) over wide)
       (ap (λ (d : List (List (Option Bool))). rows_have_each d table.cover.rows) (sym same)
       ∙ sym is ∙ lacks)
-
-  pub lacking_stays : (answer : Bool) (divisor : Shape) → IsOverInputs table
-      → HasWidth table.cover.width table.cover.rows
-      → divisor.rows ≡ map (row_over table.inputs) cover
-      → answer ≡ rows_have_each divisor.rows table.cover.rows → answer ≡ false
-      → (output : List ℕ) → divided name bit cover (named output table) ≡ named output table
-  lacking_stays answer divisor over wide same is lacks output =
-      undivided_stays name bit cover (named output table)
-      (lacking answer divisor over wide same is lacks output)
 
   pub lacking_whole : (answer : Bool) (divisor : Shape) → IsOverInputs table
       → HasWidth table.cover.width table.cover.rows
@@ -289,30 +251,35 @@ module _ {R : Type 0} (table : CoverTable R) (name : List ℕ) (bit : Bool) (cov
       })
       phase
 
-  pub turned : {X : Type 0} (f : X → List (Option Bool)) (xs : List X) (inputs : List (List ℕ))
-      (over_all answer : Bool) (divisor : Shape) (q r : List (List (Option Bool)))
-      (made tidy : CoverTable R) → IsOverInputs table
-      → HasWidth table.cover.width table.cover.rows
+  -- a table that the cover does not divide stays, another one is the rejoined one in normal form
+  pub stays_whole : (output : List ℕ) → true ≡ is_undivided cover (named output table)
+      → divided name bit cover (named output table) ≡ named output table
+  unfolding divided
+  stays_whole output none =
+      ap (λ (b : Bool). if b then named output table
+      else tidied (rejoined name bit (named output table)
+      (map (row_over (named output table).inputs) cover)
+      (quotient_by cover (named output table)))) (sym none)
+
+  pub turned : (divisor : Shape) (q r : List (List (Option Bool))) (made tidy : CoverTable R)
       → divisor.rows ≡ map (row_over table.inputs) cover
-      → IsQuotient table.cover.width table.cover.rows divisor.rows q
+      → q ≡ quotient (length table.inputs) table.cover.rows (map (row_over table.inputs) cover)
       → r ≡ others table.cover.rows (products q divisor.rows)
-      → map f xs ≡ q → answer ≡ eqb (length xs) 0 → answer ≡ false
-      → over_all ≡ is_over inputs cover → inputs ≡ table.inputs → over_all ≡ true
       → made.inputs ≡ table.inputs ++ name ∷ [] → made.cover.rows
       ≡ map (λ row. row ++ Some bit ∷ []) q ++ map (λ row. row ++ None ∷ []) r
       → made.phase ≡ table.phase
       → ((output : List ℕ) → named output tidy ≡ tidied (named output made))
-      → (output : List ℕ) → named output tidy ≡ divided name bit cover (named output table)
-  unfolding named
-  turned f xs inputs over_all answer divisor q r made tidy over wide same is left read long some
-      reads placed all put rows phase tidies output =
-      let e = quotient_named divisor q output over wide same is in
+      → (output : List ℕ) → false ≡ is_undivided cover (named output table)
+      → named output tidy ≡ divided name bit cover (named output table)
+  unfolding divided
+  turned divisor q r made tidy same is left put rows phase tidies output some =
       tidies output ∙ ap tidied (rejoined_named made divisor q r output same left put rows phase
       ∙ ap (λ (x : List (List (Option Bool))). rejoined name bit (named output table)
-      (map (row_over (named output table).inputs) cover) x) e)
-      ∙ sym (turned_is name bit cover (named output table)
-      (ap (λ (ys : List (List ℕ)). is_over ys cover) (sym placed) ∙ sym reads ∙ all)
-      (ap has_no_cube (sym e) ∙ none_of f xs q answer read long ∙ some))
+      (map (row_over (named output table).inputs) cover) x) (quotient_named q output is))
+      ∙ sym (ap (λ (b : Bool). if b then named output table
+      else tidied (rejoined name bit (named output table)
+      (map (row_over (named output table).inputs) cover)
+      (quotient_by cover (named output table)))) (sym some))
 
 -- ---- the table of a cover
 

@@ -2,7 +2,7 @@
 -- Brayton, Rudell, Sangiovanni-Vincentelli and Wang, "MIS: A Multiple-Level Logic Optimization
 -- System" (1987): weak division and resubstitution; De Micheli, "Synthesis and Optimization of
 -- Digital Circuits", chapter 8 (algebraic division, extraction).
-use Rattle.std.specs.Prelude.{ℕ, Bool, true, false, not, ◌&&◌, ◌||◌, if◌then◌else◌, Option, Some, None, List, [], ◌∷◌, ◌++◌, map, filter, length}
+use Rattle.std.specs.Prelude.{◌≡◌, ℕ, Bool, true, false, not, ◌&&◌, ◌||◌, if◌then◌else◌, Option, Some, None, List, [], ◌∷◌, ◌++◌, map, filter, length}
 use Rattle.std.specs.List.{list_all, list_any}
 use Rattle.std.specs.Ordering.{nat_cmp}
 use Rattle.std.specs.Cmp.Lexicographic.{slice_cmp}
@@ -13,7 +13,9 @@ use Rattle.alg_div.specs.Steps.{strip, support}
 use Rattle.cover_names.specs.Literals.{NamedCover, sorted}
 use Rattle.cover_names.specs.Cubes.{row_over, is_over, names_in}
 use Rattle.net_core.specs.Tables.{places_of, characters_of}
+use Rattle.net_core.specs.declared.table.CoverTable.{CoverTable}
 use Rattle.circuit_tables.specs.Tidy.{tidied}
+use Rattle.alg_tables.specs.declared.dividing.Division.{Division}
 
 -- the distinct rows, in the order of their first occurrence
 unfoldable pub firsts : List (List (Option Bool)) → List (List (Option Bool))
@@ -61,6 +63,18 @@ quotient_by cover table =
 -- quotient has no cube
 abbrev pub is_undivided : NamedCover → Table → Bool
 is_undivided cover table = not (is_over table.inputs cover) || has_no_cube (quotient_by cover table)
+
+-- the rows of a cover over a table's inputs, and the quotient and the remainder of the table's rows
+-- by them
+pub record IsDivision {R : Type 0} (cover : NamedCover) (table : CoverTable R)
+    (parts : Division R) : Type 0 where
+  pub divisor : parts.divisor.rows ≡ map (row_over table.inputs) cover
+  pub quotient : parts.quotient.rows
+      ≡ quotient (length table.inputs) table.cover.rows (map (row_over table.inputs) cover)
+  pub remainder : parts.remainder.rows
+      ≡ others table.cover.rows (products parts.quotient.rows parts.divisor.rows)
+  pub quotient_wide : parts.quotient.width ≡ length table.inputs
+  pub remainder_wide : parts.remainder.width ≡ length table.inputs
 
 -- a table divided by a cover, which the literal of a signal then replaces: the rejoined table in
 -- normal form; the table itself if the cover does not divide it

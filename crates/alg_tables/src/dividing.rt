@@ -19,7 +19,7 @@ ghost use Rattle.alg_div.specs.Steps.{literals_in};
 ghost use Rattle.cover_names.specs.Cubes.{row_over, is_over, names_in};
 ghost use Rattle.cover_names.specs.declared.literal.Literal.{Literal};
 ghost use Rattle.net_core.specs.Tables.{named, IsOverInputs};
-ghost use Rattle.alg_tables.specs.Dividing.{is_undivided, divided, sorted_names, cover_table};
+ghost use Rattle.alg_tables.specs.Dividing.{IsDivision, is_undivided, divided, sorted_names, cover_table};
 ghost use Rattle.alg_tables.specs.Containing.{some_row_has, rows_have_each};
 
 use alg_div::{cover_of, divide, literals_of};
@@ -172,6 +172,59 @@ fn rows_have_each<R: Row>(divisor: &Cover<R>, cover: &Cover<R>) -> bool
     true
 }
 
+/// The division of a table's rows by a cover.
+pub struct Division<R: Row> {
+    /// The rows of the cover over the table's inputs.
+    pub divisor: Cover<R>,
+    /// The quotient, which has a row.
+    pub quotient: Cover<R>,
+    /// The rows of the table that are no product of the quotient and the divisor.
+    pub remainder: Cover<R>,
+}
+
+// By hand, so that one call drops it.
+impl<R: Row> Drop for Division<R> {
+    fn drop(self) {
+        let Division {
+            divisor: _divisor,
+            quotient: _quotient,
+            remainder: _remainder,
+        } = self;
+    }
+}
+
+/// The division of a table's rows by a cover. `None` exactly if the cover does not divide the
+/// table: it does not read all that the cover reads, or the quotient has no cube.
+pub fn division_of<R: Row>(
+    alloc: Global,
+    table: &CoverTable<R>,
+    cover: &[Cube],
+) -> Result<Option<Division<R>>, AllocError>
+    requires { IsOverInputs table.now }
+    ensures some { IfOk result (λ found. IfSome found (IsDivision cover.now table.now)) }
+    ensures exact { IfOk result (λ found. (output : List ℕ)
+        → is_none found ≡ is_undivided cover.now (named output table.now)) }
+{
+    if !is_cover_over(table.inputs.as_slice(), cover) {
+        return Ok(None);
+    }
+    let rows = rows_over(alloc, table.inputs.as_slice(), cover)?;
+    let divisor = cover_of(alloc, table.inputs.len(), rows.as_slice())?;
+    let _of_one_width = table.cover.rows();
+    if !rows_have_each(&divisor, &table.cover) {
+        return Ok(None);
+    }
+    let (quotient, remainder) = divide(alloc, &table.cover, &divisor)?;
+    if quotient.rows().is_empty() {
+        return Ok(None);
+    }
+    Ok(Some(Division {
+        divisor,
+        quotient,
+        remainder,
+    }))
+}
+
 /// The table divided by a cover, which the literal of `name` then replaces, the positive one if
 /// `bit` is true: the quotient's cubes with that literal and the remainder's rows, in normal form.
 /// `None` exactly if the cover does not divide it, so that it stays as it is: it does not read all
@@ -192,22 +245,21 @@ pub fn divided_table<R: Row>(
     ensures exact { IfOk result (λ found. (output : List ℕ)
         → is_none found ≡ is_undivided cover.now (named output table.now)) }
 {
-    if !is_cover_over(table.inputs.as_slice(), cover) {
-        return Ok(None);
+    match division_of(alloc, table, cover)? {
+        None => Ok(None),
+        Some(parts) => {
+            let rejoined = rejoined_table(
+                alloc,
+                table,
+                name,
+                bit,
+                &parts.quotient,
+                &parts.remainder,
+            )?;
+            let tidy_table = tidy(alloc, &rejoined)?;
+            Ok(Some(tidy_table))
+        }
     }
-    let rows = rows_over(alloc, table.inputs.as_slice(), cover)?;
-    let divisor = cover_of(alloc, table.inputs.len(), rows.as_slice())?;
-    let _of_one_width = table.cover.rows();
-    if !rows_have_each(&divisor, &table.cover) {
-        return Ok(None);
-    }
-    let (quotient, remainder) = divide(alloc, &table.cover, &divisor)?;
-    if quotient.rows().is_empty() {
-        return Ok(None);
-    }
-    let rejoined = rejoined_table(alloc, table, name, bit, &quotient, &remainder)?;
-    let tidy_table = tidy(alloc, &rejoined)?;
-    Ok(Some(tidy_table))
 }
 
 // Appends copies of the names of a cube's literals.

@@ -22,6 +22,6 @@ mod inputs;
 pub mod laws;
 mod taking;
 
-pub use dividing::{cover_table, divided_table};
+pub use dividing::{Division, cover_table, divided_table, division_of};
 pub use inputs::{place_among, places_of};
 pub use taking::{ComposeFault, compose_into};

@@ -1,104 +1,24 @@
-use Rattle.std.proofs.Common.{ap}
-use Rattle.cube_cover.specs.Covers.{Shape}
-use Rattle.alg_div.specs.Steps.{literals_in}
-use Rattle.alg_tables.proofs.Divided.{rows_placed, divisor_rows, unread, undivided, turned, unread_whole, lacking_stays, lacking_whole, empty_whole, turned_whole}
+use Rattle.std.proofs.Common.{sym, ap, ◌∙◌}
+use Rattle.std.specs.Prelude.{is_none}
+use Rattle.alg_tables.proofs.Divided.{stays_whole, turned}
 use Rattle.alg_tables.proofs.dividing.divided_table.Goals as goal
 
-pub returns-then-not-is_cover_over-clause-none : goal.returns-then-not-is_cover_over-clause-none
-returns-then-not-is_cover_over-clause-none g c = λ _.
-    unread c.args.table.now c.args.name.now c.args.bit c.args.cover.now c.as_slice.result.now
-    c.is_cover_over.result c.is_cover_over.ensures c.as_slice.ensures
-    c.if-not-is_cover_over.true
+pub returns-in-None-clause-none : goal.returns-in-None-clause-none
+returns-in-None-clause-none g c = λ _ output.
+    stays_whole c.args.table.now c.args.name.now c.args.bit c.args.cover.now output
+    (sym (ap is_none c.in-None.is) ∙ c.in_ok-division_of.ensures.exact output)
 
-pub returns-then-not-is_cover_over-clause-exact : goal.returns-then-not-is_cover_over-clause-exact
-returns-then-not-is_cover_over-clause-exact g c =
-    unread_whole c.args.table.now c.args.name.now c.args.bit c.args.cover.now c.as_slice.result.now
-    c.is_cover_over.result c.is_cover_over.ensures c.as_slice.ensures
-    c.if-not-is_cover_over.true
+pub returns-in_ok-tidy_table-in-Some-clause-some : goal.returns-in_ok-tidy_table-in-Some-clause-some
+returns-in_ok-tidy_table-in-Some-clause-some g c = λ output.
+    let parts = rw c.in-Some.is at c.in_ok-division_of.ensures.some in
+    turned c.args.table.now c.args.name.now c.args.bit c.args.cover.now c.in-Some.parts.divisor
+    c.in-Some.parts.quotient.rows c.in-Some.parts.remainder.rows
+    c.in_ok-rejoined-in-Some.rejoined c.in_ok-tidy_table-in-Some.tidy_table
+    parts.divisor parts.quotient parts.remainder c.in_ok-rejoined-in-Some.ensures.inputs
+    c.in_ok-rejoined-in-Some.ensures.rows c.in_ok-rejoined-in-Some.ensures.phase
+    c.in_ok-tidy_table-in-Some.ensures.tidy output
+    (sym (ap is_none c.in-Some.is) ∙ c.in_ok-division_of.ensures.exact output)
 
-pub cover_of-requires : goal.cover_of-requires
-cover_of-requires g c =
-    rows_placed c.len.result c.args.table.now.inputs c.as_slice-2.result.now c.args.cover.now
-    (literals_in c.in_ok-rows.rows.items) (literals_in c.as_slice-3.result.now) c.len.ensures
-    c.as_slice-2.ensures
-    c.in_ok-rows.ensures (ap literals_in c.as_slice-3.ensures.value)
-
-pub returns-then-not-rows_have_each-clause-none : goal.returns-then-not-rows_have_each-clause-none
-returns-then-not-rows_have_each-clause-none g c = λ _.
-    lacking_stays c.args.table.now c.args.name.now c.args.bit c.args.cover.now
-    c.rows_have_each.result c.in_ok-divisor.divisor c.requires c.rows-of_one_width.ensures.widths
-    (divisor_rows c.args.table.now.inputs c.as_slice-2.result.now c.args.cover.now
-    c.in_ok-divisor.divisor (literals_in c.in_ok-rows.rows.items)
-    (literals_in c.as_slice-3.result.now) c.as_slice-2.ensures
-    c.in_ok-rows.ensures (ap literals_in c.as_slice-3.ensures.value)
-    (ap (λ (s : Shape). s.rows) c.in_ok-divisor.ensures))
-    c.rows_have_each.ensures c.if-not-rows_have_each.true
-
-pub returns-then-not-rows_have_each-clause-exact : goal.returns-then-not-rows_have_each-clause-exact
-returns-then-not-rows_have_each-clause-exact g c =
-    lacking_whole c.args.table.now c.args.name.now c.args.bit c.args.cover.now
-    c.rows_have_each.result c.in_ok-divisor.divisor c.requires c.rows-of_one_width.ensures.widths
-    (divisor_rows c.args.table.now.inputs c.as_slice-2.result.now c.args.cover.now
-    c.in_ok-divisor.divisor (literals_in c.in_ok-rows.rows.items)
-    (literals_in c.as_slice-3.result.now) c.as_slice-2.ensures
-    c.in_ok-rows.ensures (ap literals_in c.as_slice-3.ensures.value)
-    (ap (λ (s : Shape). s.rows) c.in_ok-divisor.ensures))
-    c.rows_have_each.ensures c.if-not-rows_have_each.true
-
-pub returns-then-is_empty-clause-none : goal.returns-then-is_empty-clause-none
-returns-then-is_empty-clause-none g c = λ _.
-    undivided c.args.table.now c.args.name.now c.args.bit c.args.cover.now g.R.Row.literals
-    c.rows.result.now c.is_empty.result c.in_ok-divisor.divisor c.in_ok-quotient.quotient.rows
-    c.requires
-    c.rows-of_one_width.ensures.widths
-    (divisor_rows c.args.table.now.inputs c.as_slice-2.result.now c.args.cover.now
-    c.in_ok-divisor.divisor (literals_in c.in_ok-rows.rows.items)
-    (literals_in c.as_slice-3.result.now) c.as_slice-2.ensures
-    c.in_ok-rows.ensures (ap literals_in c.as_slice-3.ensures.value)
-    (ap (λ (s : Shape). s.rows) c.in_ok-divisor.ensures))
-    c.in_ok-quotient.ensures.quotient c.rows.ensures.items c.is_empty.ensures c.if-is_empty.true
-
-pub returns-then-is_empty-clause-exact : goal.returns-then-is_empty-clause-exact
-returns-then-is_empty-clause-exact g c =
-    empty_whole c.args.table.now c.args.name.now c.args.bit c.args.cover.now g.R.Row.literals
-    c.rows.result.now c.is_empty.result c.in_ok-divisor.divisor c.in_ok-quotient.quotient.rows
-    c.requires
-    c.rows-of_one_width.ensures.widths
-    (divisor_rows c.args.table.now.inputs c.as_slice-2.result.now c.args.cover.now
-    c.in_ok-divisor.divisor (literals_in c.in_ok-rows.rows.items)
-    (literals_in c.as_slice-3.result.now) c.as_slice-2.ensures
-    c.in_ok-rows.ensures (ap literals_in c.as_slice-3.ensures.value)
-    (ap (λ (s : Shape). s.rows) c.in_ok-divisor.ensures))
-    c.in_ok-quotient.ensures.quotient c.rows.ensures.items c.is_empty.ensures c.if-is_empty.true
-
-pub returns-clause-exact : goal.returns-clause-exact
-returns-clause-exact g c =
-    turned_whole c.args.table.now c.args.name.now c.args.bit c.args.cover.now g.R.Row.literals
-    c.rows.result.now c.as_slice.result.now c.is_cover_over.result c.is_empty.result
-    c.in_ok-divisor.divisor
-    c.in_ok-quotient.quotient.rows c.requires c.rows-of_one_width.ensures.widths
-    (divisor_rows c.args.table.now.inputs c.as_slice-2.result.now c.args.cover.now
-    c.in_ok-divisor.divisor (literals_in c.in_ok-rows.rows.items)
-    (literals_in c.as_slice-3.result.now) c.as_slice-2.ensures
-    c.in_ok-rows.ensures (ap literals_in c.as_slice-3.ensures.value)
-    (ap (λ (s : Shape). s.rows) c.in_ok-divisor.ensures))
-    c.in_ok-quotient.ensures.quotient c.rows.ensures.items c.is_empty.ensures c.if-is_empty.false
-    c.is_cover_over.ensures c.as_slice.ensures c.if-not-is_cover_over.false
-
-pub returns-clause-some : goal.returns-clause-some
-returns-clause-some g c =
-    turned c.args.table.now c.args.name.now c.args.bit c.args.cover.now g.R.Row.literals
-    c.rows.result.now c.as_slice.result.now c.is_cover_over.result c.is_empty.result
-    c.in_ok-divisor.divisor
-    c.in_ok-quotient.quotient.rows c.in_ok-quotient.remainder.rows c.in_ok-rejoined.rejoined
-    c.in_ok-tidy_table.tidy_table c.requires c.rows-of_one_width.ensures.widths
-    (divisor_rows c.args.table.now.inputs c.as_slice-2.result.now c.args.cover.now
-    c.in_ok-divisor.divisor (literals_in c.in_ok-rows.rows.items)
-    (literals_in c.as_slice-3.result.now) c.as_slice-2.ensures
-    c.in_ok-rows.ensures (ap literals_in c.as_slice-3.ensures.value)
-    (ap (λ (s : Shape). s.rows) c.in_ok-divisor.ensures))
-    c.in_ok-quotient.ensures.quotient
-    c.in_ok-quotient.ensures.remainder c.rows.ensures.items c.is_empty.ensures c.if-is_empty.false
-    c.is_cover_over.ensures c.as_slice.ensures c.if-not-is_cover_over.false
-    c.in_ok-rejoined.ensures.inputs
-    c.in_ok-rejoined.ensures.rows c.in_ok-rejoined.ensures.phase c.in_ok-tidy_table.ensures.tidy
+pub returns-in_ok-tidy_table-in-Some-clause-exact : goal.returns-in_ok-tidy_table-in-Some-clause-exact
+returns-in_ok-tidy_table-in-Some-clause-exact g c = λ output.
+    sym (ap is_none c.in-Some.is) ∙ c.in_ok-division_of.ensures.exact output
