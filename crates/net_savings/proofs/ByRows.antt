@@ -124,7 +124,7 @@ none_equal row (first ∷ rows) away = cases (row_eq row first) refl (none_equal
     cases true e rest = absurd (away (inl (same_from_eq row first e)))
     cases false e rest = ap (λ (xs : List (List (Option Bool))). first ∷ xs) rest
 
-firsts_same : (rows : List (List (Option Bool))) → AreOnce rows → firsts rows ≡ rows
+pub firsts_same : (rows : List (List (Option Bool))) → AreOnce rows → firsts rows ≡ rows
 unfolding firsts
 firsts_same [] h = refl
 firsts_same (row ∷ rows) h =
@@ -145,7 +145,7 @@ lost_sum made whole n k lq d e same =
     let product : n * d ≡ n * suc k = ap (λ (m : ℕ). n * m) same in
     omega (arith, e, product, mul-suc n k)
 
-stays_loss : (name : List ℕ) (cover : NamedCover) (table : Table) → divided name true cover table ≡ table → IsLoss name cover (Some table) (Some 0)
+pub stays_loss : (name : List ℕ) (cover : NamedCover) (table : Table) → divided name true cover table ≡ table → IsLoss name cover (Some table) (Some 0)
 stays_loss name cover table stays = (sym (untouched_lost name cover table stays), inl stays)
 
 module _ (name : List ℕ) (cube : Cube) (table : Table) where
@@ -212,7 +212,7 @@ module _ (name : List ℕ) (cube : Cube) (table : Table) where
 -- ---- tables of the program
 
 module _ {R : Type 0} (table : CoverTable R) where
-  rows_back : (name : List ℕ) (some : NamedCover) (output : List ℕ) → rows_of name true some (named output table) ≡ table.cover.rows
+  pub rows_back : (name : List ℕ) (some : NamedCover) (output : List ℕ) → rows_of name true some (named output table) ≡ table.cover.rows
   unfolding named
   rows_back name some output = all_places_back table.cover.rows
 

@@ -11,6 +11,7 @@ pub mod Losing
 pub mod Tabled
 pub mod Narrowing
 pub mod ByRows
+pub mod ByDivision
 pub mod Found
 pub mod Unlisted
 pub mod Owning

@@ -20,6 +20,7 @@
 //! and then in the order of covers. After an error anything may be known.
 #![tactic(auto)]
 
+mod by_division;
 mod by_rows;
 mod cover_set;
 mod covers;

@@ -5,8 +5,8 @@
 //! Optimization System" (1987): the value of a divisor is the literals that it saves. A table can
 //! be divided only if it reads all names of the cover and has a row for each of its cubes. So only
 //! the tables that the index of rows (`rows`) finds are looked at, or, without it, the fanouts of
-//! the name that has the fewest; they are divided only if their rows do not tell what they lose
-//! (`by_rows`). Callers rely on `IsSaved`: the exact number, and none exactly if nothing is saved
+//! the name that has the fewest; they are divided only if neither their rows (`by_rows`) nor the
+//! quotient (`by_division`) tells what they lose. Callers rely on `IsSaved`: the exact number, and none exactly if nothing is saved
 //! or a table would have more than `MAX_INPUTS` inputs.
 
 ghost use Rattle.std.specs.Prelude.{◌≡◌, ℕ, ◌+◌, ◌-◌, ◌≤◌, ◌<◌, ltb, ◌&&◌, ◌⊎◌, true, false, Option, Some, List, [], ◌∷◌, length, IfOk, IfSome, MatchOption};
@@ -27,10 +27,11 @@ ghost use Rattle.net_savings.specs.Indexed.{IsLostIn, IsIndex, AreAll};
 ghost use Rattle.net_savings.specs.Meeting.{is_apart};
 ghost use Rattle.net_savings.specs.Saving.{IsLoss, AreLosses, IsSaved};
 
+use crate::by_division::loss_by_division;
 use crate::by_rows::{loss_by_rows, product_of, sum_of};
 use crate::meeting::is_apart;
 use crate::rows::RowIndex;
-use alg_tables::{cover_table, divided_table};
+use alg_tables::{cover_table, divided_table, division_of};
 use circuit_model::{Name, has_name};
 use cover_names::{Cube, Literal};
 use cube_cover::Row;
@@ -161,8 +162,36 @@ fn loss_by_one<R: Row>(
     }
 }
 
+// The number of literals that a table loses by a cover, by the divided table; none if that has too
+// many inputs.
+fn loss_by_table<R: Row>(
+    alloc: Global,
+    table: &CoverTable<R>,
+    name: &Name,
+    cover: &[Cube],
+) -> Result<Option<u128>, AllocError>
+    requires over { IsOverInputs table.now }
+    requires once { all_different table.now.inputs ≡ true }
+    requires free { has table.now.inputs name.now ≡ false }
+    ensures { IfOk result (λ loss. (output : List ℕ)
+        → IsLoss name.now cover.now (Some (named output table.now)) loss) }
+{
+    // by this call the rows are known to have the cover's width
+    let _of_one_width = table.cover.rows();
+    match divided_table(alloc, table, name, true, cover)? {
+        None => Ok(Some(0)),
+        Some(made) => {
+            if is_wide(&made, name) {
+                Ok(None)
+            } else {
+                Ok(Some(literal_count(table).saturating_sub(literal_count(&made))))
+            }
+        }
+    }
+}
+
 /// The number of literals that a table loses if it is divided by a cover; none if it would have too
-/// many inputs. The table is divided only if its rows do not tell the number.
+/// many inputs. The divided table is made only if neither the rows nor their division tells.
 pub(crate) fn loss_of<R: Row>(
     alloc: Global,
     table: &CoverTable<R>,
@@ -178,17 +207,12 @@ pub(crate) fn loss_of<R: Row>(
     if let Some(lost) = loss_by_one(alloc, table, cover)? {
         return Ok(Some(lost));
     }
-    // by this call the rows are known to have the cover's width
-    let _of_one_width = table.cover.rows();
-    match divided_table(alloc, table, name, true, cover)? {
+    match division_of(alloc, table, cover)? {
         None => Ok(Some(0)),
-        Some(made) => {
-            if is_wide(&made, name) {
-                Ok(None)
-            } else {
-                Ok(Some(literal_count(table).saturating_sub(literal_count(&made))))
-            }
-        }
+        Some(parts) => match loss_by_division(alloc, table, cover, &parts)? {
+            Some(lost) => Ok(Some(lost)),
+            None => loss_by_table(alloc, table, name, cover),
+        },
     }
 }
 
