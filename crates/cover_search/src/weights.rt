@@ -7,10 +7,13 @@
 //! column adds the row's weight: to the other bit if the rows must give 0, to its own bit if they
 //! must give 1. A row with k open literals has a weight of 2^(40-2k), or 1 from k = 20 on; if the
 //! rows must give 1, it is divided by their number. If the rows must give 0, a row of one open
-//! literal forces its bit, and no weights are computed.
+//! literal forces its bit, and no weights are computed. Rows are read literal by literal, so that
+//! their dashes cost nothing.
+
+ghost use Rattle.std.specs.Prelude.{◌+◌, ◌^◌, ◌<◌, ◌≤◌, length, IfSome};
 
 use crate::constraint::Constraint;
-use crate::narrow::{known_wanted, literal_at};
+use crate::narrow::known_wanted;
 use cube_cover::Row;
 use std::alloc::{AllocError, Global};
 
@@ -21,49 +24,59 @@ pub struct SplitChoice {
     pub bit: bool,
 }
 
-// For each open column the weights of its positive and of its negative literal.
+// For each column the weights of its positive and of its negative literal; 0 if it is not open.
 #[derive(Drop)]
 struct PolarityWeights {
     positive: Vec<u64>,
     negative: Vec<u64>,
 }
 
-// Adds to the weight of an open column.
-fn add_weight(weights: &mut [u64], i: usize, weight: u64) {
-    if i < weights.len() {
-        weights[i] = weights[i].saturating_add(weight);
+// Adds to the weight of a column.
+fn add_weight(weights: &mut [u64], place: usize, weight: u64) {
+    if place < weights.len() {
+        weights[place] = weights[place].saturating_add(weight);
     }
 }
 
 impl PolarityWeights {
-    // Adds to the weight of the literal of a bit in an open column.
-    fn add(&mut self, i: usize, bit: bool, weight: u64) {
+    // Adds to the weight of the literal of a bit in a column.
+    fn add(&mut self, place: usize, bit: bool, weight: u64) {
         if bit {
-            add_weight(self.positive.as_mut_slice(), i, weight);
+            add_weight(self.positive.as_mut_slice(), place, weight);
         } else {
-            add_weight(self.negative.as_mut_slice(), i, weight);
+            add_weight(self.negative.as_mut_slice(), place, weight);
         }
     }
 }
 
-// The columns in which a row has a dash.
-fn open_places<R: Row>(alloc: Global, given: &R) -> Result<Vec<usize>, AllocError> {
-    let mut places = Vec::new(alloc);
-    for place in 0..given.width() {
-        if given.at(place).is_none() {
-            places.push(place)?;
-        }
-    }
-    Ok(places)
+// Whether the given row has a dash in a column.
+fn is_open<R: Row>(given: &R, place: usize) -> bool {
+    place < given.width() && given.at(place).is_none()
 }
 
-// The number of columns, among those given, in which a row has a literal.
-fn literals_among<R: Row>(row: &R, places: &[usize]) -> usize {
+// The first column at or after a place that is open and in which a row has a literal, with its bit.
+fn next_open<R: Row>(given: &R, row: &R, from: usize) -> Option<(usize, bool)>
+    ensures onward { IfSome result (λ next. (from ≤ next.0)
+        × (next.0 < length (R.literals row.now))) }
+    ensures fits { IfSome result (λ next. next.0 + 1 < 2 ^ 64) }
+{
+    let mut next = from;
+    while let Some(place) = row.next_literal(next) {
+        if is_open(given, place) {
+            return row.at(place).map(|bit| (place, bit));
+        }
+        next = place + 1;
+    }
+    None
+}
+
+// The number of open columns in which a row has a literal.
+fn open_literals<R: Row>(given: &R, row: &R) -> usize {
     let mut count: usize = 0;
-    for place in places {
-        if literal_at(row, *place, None).is_some() {
-            count = count.saturating_add(1);
-        }
+    let mut from = 0;
+    while let Some((place, _)) = next_open(given, row, from) {
+        count = count.saturating_add(1);
+        from = place + 1;
     }
     count
 }
@@ -87,46 +100,43 @@ fn share_of(weight: u64, parts: usize) -> u64 {
 // Adds a part of a row's weight, for its literals or against them.
 fn weigh_row<R: Row>(
     weights: &mut PolarityWeights,
-    places: &[usize],
+    given: &R,
     row: &R,
     is_for: bool,
     parts: usize,
 ) {
-    let weight = share_of(row_weight(literals_among(row, places)), parts);
-    for (i, place) in places.iter().enumerate() {
-        match literal_at(row, *place, None) {
-            None => (),
-            Some(bit) => weights.add(i, bit == is_for, weight),
-        }
+    let weight = share_of(row_weight(open_literals(given, row)), parts);
+    let mut from = 0;
+    while let Some((place, bit)) = next_open(given, row, from) {
+        weights.add(place, bit == is_for, weight);
+        from = place + 1;
     }
 }
 
 // Adds the weights of rows.
 fn weigh_rows<R: Row>(
     weights: &mut PolarityWeights,
-    places: &[usize],
+    given: &R,
     rows: &[&R],
     is_for: bool,
     parts: usize,
 ) {
     for row in rows {
-        weigh_row(weights, places, *row, is_for, parts);
+        weigh_row(weights, given, *row, is_for, parts);
     }
 }
 
-// Adds the weight of a row of one literal for a bit in a column.
-fn weigh_bit(weights: &mut PolarityWeights, places: &[usize], place: usize, bit: bool) {
-    for (i, open) in places.iter().enumerate() {
-        if *open == place {
-            weights.add(i, bit, row_weight(1));
-        }
+// Adds the weight of a row of one literal for a bit in a column, if that is open.
+fn weigh_bit<R: Row>(weights: &mut PolarityWeights, given: &R, place: usize, bit: bool) {
+    if is_open(given, place) {
+        weights.add(place, bit, row_weight(1));
     }
 }
 
 // Whether some row has no literal in an open column.
-fn some_is_closed<R: Row>(rows: &[&R], places: &[usize]) -> bool {
+fn some_is_closed<R: Row>(given: &R, rows: &[&R]) -> bool {
     for row in rows {
-        if literals_among(*row, places) == 0 {
+        if next_open(given, *row, 0).is_none() {
             return true;
         }
     }
@@ -138,58 +148,53 @@ fn some_is_closed<R: Row>(rows: &[&R], places: &[usize]) -> bool {
 // soon.
 fn weigh_tie<R: Row>(
     weights: &mut PolarityWeights,
-    places: &[usize],
+    given: &R,
     rows: &[&R],
     place: usize,
     phase: bool,
 ) {
     if rows.len() == 0 {
-        weigh_bit(weights, places, place, !phase);
-    } else if some_is_closed(rows, places) {
-        weigh_bit(weights, places, place, phase);
+        weigh_bit(weights, given, place, !phase);
+    } else if some_is_closed(given, rows) {
+        weigh_bit(weights, given, place, phase);
     } else {
-        weigh_rows(weights, places, rows, false, 16);
+        weigh_rows(weights, given, rows, false, 16);
     }
 }
 
 // Adds the weights of a constraint.
-fn weigh_constraint<R: Row>(
-    weights: &mut PolarityWeights,
-    places: &[usize],
-    given: &R,
-    constraint: &Constraint<R>,
-) {
+fn weigh_constraint<R: Row>(weights: &mut PolarityWeights, given: &R, constraint: &Constraint<R>) {
     match known_wanted(given, constraint.tie(), constraint.bit()) {
         Some(true) => weigh_rows(
             weights,
-            places,
+            given,
             constraint.rows(),
             true,
             constraint.rows().len(),
         ),
-        Some(false) => weigh_rows(weights, places, constraint.rows(), false, 1),
+        Some(false) => weigh_rows(weights, given, constraint.rows(), false, 1),
         None => match constraint.tie() {
             None => (),
-            Some(place) => weigh_tie(weights, places, constraint.rows(), place, constraint.bit()),
+            Some(place) => weigh_tie(weights, given, constraint.rows(), place, constraint.bit()),
         },
     }
 }
 
-// The open column with most weight, the first of several, and the bit that has more of it there.
-fn heaviest_choice(weights: &PolarityWeights, places: &[usize]) -> SplitChoice {
+// The column with most weight, the first of several, and the bit that has more of it there.
+fn heaviest_choice(weights: &PolarityWeights) -> SplitChoice {
     let mut choice = SplitChoice {
         place: 0,
         bit: false,
     };
     let mut most: u64 = 0;
-    for (i, place) in places.iter().enumerate() {
-        if i < weights.positive.len() && i < weights.negative.len() {
-            let (positive, negative) = (weights.positive[i], weights.negative[i]);
+    for (place, positive) in weights.positive.iter().enumerate() {
+        if place < weights.negative.len() {
+            let negative = weights.negative[place];
             if positive.saturating_add(negative) > most {
                 most = positive.saturating_add(negative);
                 choice = SplitChoice {
-                    place: *place,
-                    bit: positive > negative,
+                    place,
+                    bit: *positive > negative,
                 };
             }
         }
@@ -199,36 +204,21 @@ fn heaviest_choice(weights: &PolarityWeights, places: &[usize]) -> SplitChoice {
 
 // The one open column in which a row has a literal, and the bit that makes the row 0; none if it
 // has no open literal, or more than one.
-fn forced_by_row<R: Row>(row: &R, places: &[usize]) -> Option<SplitChoice> {
-    let mut forced = None;
-    for place in places {
-        match literal_at(row, *place, None) {
-            None => (),
-            Some(bit) => {
-                if forced.is_some() {
-                    return None;
-                }
-                forced = Some(SplitChoice {
-                    place: *place,
-                    bit: !bit,
-                });
-            }
-        }
+fn forced_by_row<R: Row>(given: &R, row: &R) -> Option<SplitChoice> {
+    let (place, bit) = next_open(given, row, 0)?;
+    if next_open(given, row, place + 1).is_some() {
+        return None;
     }
-    forced
+    Some(SplitChoice { place, bit: !bit })
 }
 
 // The choice forced by the first row with one open literal, if the rows must give 0.
-fn forced_by_constraint<R: Row>(
-    places: &[usize],
-    given: &R,
-    constraint: &Constraint<R>,
-) -> Option<SplitChoice> {
+fn forced_by_constraint<R: Row>(given: &R, constraint: &Constraint<R>) -> Option<SplitChoice> {
     if known_wanted(given, constraint.tie(), constraint.bit()) != Some(false) {
         return None;
     }
     for row in constraint.rows() {
-        let forced = forced_by_row(*row, places);
+        let forced = forced_by_row(given, *row);
         if forced.is_some() {
             return forced;
         }
@@ -237,13 +227,9 @@ fn forced_by_constraint<R: Row>(
 }
 
 // The choice forced by a row of one open literal, if there is such a row.
-fn forced<R: Row>(
-    places: &[usize],
-    given: &R,
-    constraints: &[Constraint<R>],
-) -> Option<SplitChoice> {
+fn forced<R: Row>(given: &R, constraints: &[Constraint<R>]) -> Option<SplitChoice> {
     for constraint in constraints {
-        let forced = forced_by_constraint(places, given, constraint);
+        let forced = forced_by_constraint(given, constraint);
         if forced.is_some() {
             return forced;
         }
@@ -255,15 +241,14 @@ fn forced<R: Row>(
 fn weights_of<R: Row>(
     alloc: Global,
     given: &R,
-    places: &[usize],
     constraints: &[Constraint<R>],
 ) -> Result<PolarityWeights, AllocError> {
     let mut weights = PolarityWeights {
-        positive: vec![in alloc; 0; places.len()]?,
-        negative: vec![in alloc; 0; places.len()]?,
+        positive: vec![in alloc; 0; given.width()]?,
+        negative: vec![in alloc; 0; given.width()]?,
     };
     for constraint in constraints {
-        weigh_constraint(&mut weights, places, given, constraint);
+        weigh_constraint(&mut weights, given, constraint);
     }
     Ok(weights)
 }
@@ -274,12 +259,11 @@ pub fn choose<R: Row>(
     given: &R,
     constraints: &[Constraint<R>],
 ) -> Result<SplitChoice, AllocError> {
-    let places = open_places(alloc, given)?;
-    if let Some(choice) = forced(places.as_slice(), given, constraints) {
+    if let Some(choice) = forced(given, constraints) {
         return Ok(choice);
     }
-    let weights = weights_of(alloc, given, places.as_slice(), constraints)?;
-    Ok(heaviest_choice(&weights, places.as_slice()))
+    let weights = weights_of(alloc, given, constraints)?;
+    Ok(heaviest_choice(&weights))
 }
 
 /// The open columns in which the positive literal has more weight, in order.
@@ -288,15 +272,11 @@ pub fn places_for_one<R: Row>(
     given: &R,
     constraints: &[Constraint<R>],
 ) -> Result<Vec<usize>, AllocError> {
-    let places = open_places(alloc, given)?;
-    let weights = weights_of(alloc, given, places.as_slice(), constraints)?;
+    let weights = weights_of(alloc, given, constraints)?;
     let mut ones = Vec::new(alloc);
-    for (i, place) in places.iter().enumerate() {
-        if i < weights.positive.len()
-            && i < weights.negative.len()
-            && weights.positive[i] > weights.negative[i]
-        {
-            ones.push(*place)?;
+    for (place, positive) in weights.positive.iter().enumerate() {
+        if place < weights.negative.len() && *positive > weights.negative[place] {
+            ones.push(place)?;
         }
     }
     Ok(ones)
