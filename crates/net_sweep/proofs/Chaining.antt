@@ -1,9 +1,7 @@
 -- Steps one after the other.
-use Rattle.std.proofs.Common.{◌≡◌, ℕ, ◌<◌, ◌≤◌, ◌-◌, not, length, count_by, Option, Some, None, List, [], ◌∷◌, ◌++◌, false, inl, inr, refl, sym, ap, ◌∙◌, subst, arith}
+use Rattle.std.proofs.Common.{◌≡◌, ℕ, ◌<◌, ◌≤◌, ◌-◌, not, Option, Some, None, List, [], ◌∷◌, ◌++◌, false, inl, inr, refl, sym, ap, ◌∙◌, subst, arith}
 use Rattle.std.specs.Option.{option_or}
-use Rattle.circuit_model.specs.Names.{has}
-use Rattle.circuit_model.specs.Soundness.{IsSound, outputs_of}
-use Rattle.circuit_model.specs.declared.circuit.Table.{Table}
+use Rattle.circuit_model.specs.Soundness.{IsSound}
 use Rattle.circuit_model.specs.declared.circuit.Circuit.{Circuit}
 use Rattle.circuit_laws.specs.Chains.{Chain}
 use Rattle.circuit_laws.proofs.Chains.{chain_none, chain_before}
@@ -12,7 +10,7 @@ use Rattle.circuit_laws.proofs.Drivers.{output_driver}
 use Rattle.std.proofs.lemmas.Bool.{false≢true}
 use Rattle.net_wires.specs.Rules.{tidy_table, write_constant, propagate_constant, collapse_single_input, fix_constant_latch, remove_dangling, sweep_step}
 use Rattle.net_wires.specs.Keeping.{IsKept}
-use Rattle.net_wires.specs.Sweeping.{IsSwept, tables_gone, latches_gone}
+use Rattle.net_wires.specs.Sweeping.{IsSwept}
 use Rattle.net_wires.proofs.Chaining.{step_kept, chain_kept, chain_swept}
 use Rattle.net_wires.proofs.Falling.{step_falls}
 use Rattle.net_wires.proofs.Weight.{weight, replaced_lighter}
@@ -143,12 +141,3 @@ all_kept old circuit end new e sound chain n =
 
 pub all_swept : (circuit end new : Circuit) → Chain sweep_step circuit end → new ≡ end → IsSwept new
 all_swept circuit end new chain n = subst IsSwept (sym n) (chain_swept circuit end chain)
-
-pub all_counted : (old circuit end new : Circuit) (tables : List Table) (names : List (List ℕ)) (latches left count : ℕ) → circuit ≡ old → new ≡ end → tables ≡ circuit.tables
-    → names ≡ outputs_of tables → latches ≡ length circuit.latches → count ≡ count_by (λ name. not (has (outputs_of end.tables) name)) names → left ≡ latches - length end.latches
-    → (count ≡ tables_gone old new) × (left ≡ latches_gone old new)
-all_counted old circuit end new tables names latches left count e n t m l c g = (
-  c ∙ (ap (λ (ns : List (List ℕ)). count_by (λ name. not (has (outputs_of end.tables) name)) ns) (m ∙ (ap outputs_of t ∙ ap (λ (x : Circuit). outputs_of x.tables) e))
-      ∙ ap (λ (x : Circuit). count_by (λ name. not (has (outputs_of x.tables) name)) (outputs_of old.tables)) (sym n)),
-  g ∙ (ap (λ (k : ℕ). k - length end.latches) (l ∙ ap (λ (x : Circuit). length x.latches) e) ∙ ap (λ (x : Circuit). length old.latches - length x.latches) (sym n)),
-)

@@ -181,10 +181,6 @@ whole_again circuit sound = ap (λ (timing : Option Timing). record circuit { ti
 pub begun : (circuit : Circuit) (slots : List (Option Latch)) → IsSound circuit → left_at slots ≡ circuit.latches → HasLed circuit (with_latches circuit (left_at slots))
 begun circuit slots sound left = subst (HasLed circuit) (sym (ap (with_latches circuit) left ∙ whole_again circuit sound)) (not_yet circuit sound)
 
--- each index of a table waits for each rule
-pub all_marked : (tables : List Table) (count : ℕ) (marks : Rule → ℕ → Bool) → count ≡ length tables → ((rule : Rule) (place : ℕ) → place < count → marks rule place ≡ true) → AreCandidates marks tables
-all_marked tables count marks long every rule place table at passed = every rule place (subst (λ (n : ℕ). place < n) (sym long) (slice_get_within tables place table at))
-
 pub settling_itself : (circuit : Circuit) (tracked : TrackedLatches) (marks : Rule → ℕ → Bool) → IsSound (with_latches circuit (left_at tracked.slots.items)) → AreCandidates marks circuit.tables → IsReady tracked circuit
     → IsSettling (with_latches circuit (left_at tracked.slots.items)) circuit tracked marks
 settling_itself circuit tracked marks sound marked ready = record { led = not_yet (with_latches circuit (left_at tracked.slots.items)) sound; marked = marked; ready = ready }

@@ -121,6 +121,42 @@ fn applies_at<R: Row>(
     }
 }
 
+// The indices of the tables to which a rule applies.
+fn places_for<R: Row>(
+    alloc: Global,
+    rule: Rule,
+    aliased: &AliasedTables,
+) -> Result<BTreeSet<usize>, AllocError>
+    requires { AllByRecursion IsWide aliased.now.tables }
+    ensures { IfOk result (λ places. AreWaiting (passes rule aliased.now.tables)
+        (contains nat_cmp places) aliased.now.tables) }
+{
+    let mut places = BTreeSet::new(alloc);
+    for place in 0..aliased.len() {
+        if applies_at::<R>(alloc, rule, aliased, place)? {
+            put_place(&mut places, place)?;
+        }
+    }
+    Ok(places)
+}
+
+// For each rule the indices of the tables to which it applies.
+pub(crate) fn all_candidates<R: Row>(
+    alloc: Global,
+    aliased: &AliasedTables,
+) -> Result<Candidates, AllocError>
+    requires { AllByRecursion IsWide aliased.now.tables }
+    ensures { IfOk result (λ candidates. AreCandidates (is_candidate candidates)
+        aliased.now.tables) }
+{
+    Ok(Candidates {
+        untidy: places_for::<R>(alloc, Rule::TidyTable, aliased)?,
+        unwritten: places_for::<R>(alloc, Rule::WriteConstant, aliased)?,
+        constants: places_for::<R>(alloc, Rule::PropagateConstant, aliased)?,
+        singles: places_for::<R>(alloc, Rule::CollapseSingleInput, aliased)?,
+    })
+}
+
 // The first index at which a rule applies; it stays in the worklist.
 fn first_place<R: Row>(
     alloc: Global,

@@ -122,19 +122,6 @@ pub(crate) fn all_places(alloc: Global, count: usize) -> Result<BTreeSet<usize>,
     Ok(places)
 }
 
-// The candidates in which each of the given number of indices, from 0 on, is listed for each rule.
-pub(crate) fn all_candidates(alloc: Global, count: usize) -> Result<Candidates, AllocError>
-    ensures { IfOk result (λ candidates. (rule : Rule) (place : ℕ) → place < count
-        → is_candidate candidates rule place ≡ true) }
-{
-    Ok(Candidates {
-        untidy: all_places(alloc, count)?,
-        unwritten: all_places(alloc, count)?,
-        constants: all_places(alloc, count)?,
-        singles: all_places(alloc, count)?,
-    })
-}
-
 // Removes and returns the list of a signal.
 pub(crate) fn take_list(alloc: Global, lists: &mut IndexMap<Name, Places>, name: &Name) -> Places
     ensures list { result ≡ listed (get bytes_eq lists.old name.now) }

@@ -6,9 +6,8 @@
 //! the old one and has the finished form; it keeps within the bounds of the old network. The
 //! network given stays as it is.
 
-ghost use Rattle.std.specs.Prelude.{◌≡◌, ◌-◌, not, None, count_by, length, IfOk, OnOk};
-ghost use Rattle.circuit_model.specs.Names.{has};
-ghost use Rattle.circuit_model.specs.Soundness.{IsSound, outputs_of};
+ghost use Rattle.std.specs.Prelude.{◌≡◌, None, IfOk, OnOk};
+ghost use Rattle.circuit_model.specs.Soundness.{IsSound};
 ghost use Rattle.circuit_laws.specs.Chains.{Chain};
 ghost use Rattle.net_core.specs.Reads.{HasBounds};
 ghost use Rattle.net_wires.specs.Keeping.{IsKept};
@@ -18,13 +17,14 @@ ghost use Rattle.net_sweep.specs.Settled.{table_step, is_candidate, AreCandidate
 ghost use Rattle.net_sweep.specs.Latches.{left_at, with_latches, IsReady, IsNextStep};
 ghost use Rattle.net_sweep.specs.declared.sweeping.SweepFault.TheVariants.{Memory};
 
-use crate::counting::{count_undriven, outputs};
+use crate::applying::all_candidates;
+use crate::counting::count_undriven;
 use crate::idle::empty_at_step;
 use crate::latches::TrackedLatches;
-use crate::queues::{Candidates, all_candidates};
+use crate::queues::Candidates;
 use crate::steps::{next_step, take_step};
 use crate::tracking::{tracked_latches, with_tracked_latches};
-use circuit_model::{Circuit, Name};
+use circuit_model::Circuit;
 use cube_cover::Row;
 use net_core::Network;
 use net_wires::{AliasedTables, dangling_step};
@@ -77,7 +77,7 @@ fn take_steps<R: Row>(
     Ok(())
 }
 
-// Takes steps of the first five rules until none applies, starting with every table as a candidate.
+// Takes steps of the first five rules until none applies, starting where one does.
 fn settle<R: Row>(
     alloc: Global,
     aliased: &mut AliasedTables,
@@ -89,7 +89,7 @@ fn settle<R: Row>(
         (with_latches aliased.new (left_at tracked.new.slots.items))) }
     ensures next { OnOk result (IsNextStep aliased.new tracked.new.slots.items None) }
 {
-    let mut candidates = all_candidates(alloc, aliased.len())?;
+    let mut candidates = all_candidates::<R>(alloc, aliased)?;
     take_steps::<R>(alloc, aliased, &mut candidates, tracked)
 }
 
@@ -142,17 +142,15 @@ fn finished<R: Row>(alloc: Global, circuit: Circuit) -> Result<Circuit, AllocErr
     Ok(end.into_it())
 }
 
-// The numbers of the named tables, and of the given number of latches, that a circuit no longer
-// has.
-fn gone(alloc: Global, tables: &[Name], latches: usize, end: &Circuit) -> Result<Swept, AllocError>
-    ensures tables { IfOk result (λ swept. swept.tables
-        ≡ count_by (λ name. not (has (outputs_of end.now.tables) name)) tables.now) }
-    ensures latches { IfOk result (λ swept. swept.latches ≡ latches - length end.now.latches) }
+// The numbers of a network's tables and latches that a circuit no longer has.
+fn gone<R: Row>(alloc: Global, network: &Network<R>, end: &Circuit) -> Result<Swept, AllocError>
+    ensures tables { IfOk result (λ swept. swept.tables ≡ tables_gone network.now end.now) }
+    ensures latches { IfOk result (λ swept. swept.latches ≡ latches_gone network.now end.now) }
 {
-    let count = count_undriven(alloc, tables, end.tables.as_slice())?;
+    let count = count_undriven(alloc, network, end.tables.as_slice())?;
     Ok(Swept {
         tables: count,
-        latches: latches.saturating_sub(end.latches.len()),
+        latches: network.latches().len().saturating_sub(end.latches.len()),
     })
 }
 
@@ -167,14 +165,11 @@ pub fn sweep<R: Row>(alloc: Global, network: &Network<R>) -> Result<(Network<R>,
     ensures bounds { HasBounds network.now → IfOk result (λ made. HasBounds made.0) }
 {
     network.sound();
-    // Wholes, so that one call drops each.
     let circuit = network.to_circuit(alloc)?;
-    let begun = Whole { it: circuit };
-    let tables = outputs(alloc, begun.it.tables.as_slice())?;
-    let latches = begun.it.latches.len();
-    let end = finished::<R>(alloc, begun.into_it())?;
+    let end = finished::<R>(alloc, circuit)?;
+    // A whole, so that one call drops it.
     let swept_end = Whole { it: end };
-    let swept = gone(alloc, tables.as_slice(), latches, &swept_end.it)?;
+    let swept = gone(alloc, network, &swept_end.it)?;
     let made = Network::from_circuit(alloc, swept_end.into_it())?;
     Ok((made, swept))
 }

@@ -1,7 +1,5 @@
-use Rattle.net_sweep.specs.Settled.{is_candidate}
-use Rattle.net_sweep.proofs.Stepping.{all_marked}
+use Rattle.net_sweep.proofs.Finds.{all_wide}
 use Rattle.net_sweep.proofs.sweeping.settle.Goals as goal
 
-pub take_steps-requires-clause-candidates : goal.take_steps-requires-clause-candidates
-take_steps-requires-clause-candidates g c =
-    all_marked c.args.aliased.now.tables c.len.result (is_candidate c.in_ok-candidates.candidates) c.len.ensures c.in_ok-candidates.ensures
+pub all_candidates-requires : goal.all_candidates-requires
+all_candidates-requires g c = all_wide c.args.aliased.now.tables c.requires.sound.shaped
