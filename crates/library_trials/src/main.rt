@@ -10,9 +10,10 @@
 //!
 //! Not called by name, since cases here or commands of top_trials surely run through them:
 //! - `first_cyclic`, `read_gate`, `add_signals`, `add_names`, `characters`, `end_line`: files read;
-//! - `place_rows`: `compose`; `note_place`: `dangling_step`; `from_written`: `tidy`; `fates`,
+//! - `place_rows`: `compose`; `note_place`: `dangling_step`; `from_written`: `sweep`; `fates`,
 //!   `table_number`, `place_of`, and an arena's other vertices: `forest`; `Choices`: `cover`;
-//! - `compose_into`, `places_of`: `eliminate`; `divided_table`, `cover_table`: `resub`;
+//! - `compose_into`, `places_of`: `eliminate`; `division_of`, `divided_table`, `cover_table`:
+//!   `resub`;
 //! - `set`, `add` and `remove` of `WorkingNetwork` and `Links`, `UseCounts`: `eliminate` and
 //!   `decomp`;
 //! - `cube_over`, `row_over`, `cover_over`, and what net_candidates gives: `fx`, `gkx` and `gcx`;

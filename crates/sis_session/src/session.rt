@@ -38,6 +38,7 @@ use cube_cover::PlainRow;
 use genlib_format::Library;
 use net_core::Network;
 use netlist::Mapped;
+use sis_base::{Copied, Whole};
 use sis_outside::{Sink, Store};
 use sis_script::{Change, Command, Op, Style};
 use sis_text::Word;
@@ -114,7 +115,11 @@ impl Session {
         ensures ok { OnOk result (self.new ≡ with_read self.old circuit) }
         ensures err { OnErr result (self.new ≡ self.old) }
     {
-        self.network = Some(Network::from_circuit(alloc, circuit)?);
+        // A copy, so that the tables do not lie scattered over the memory of what made them.
+        let read = Whole { it: circuit };
+        let copied = read.it.copy(alloc)?;
+        drop(read);
+        self.network = Some(Network::from_circuit(alloc, copied)?);
         self.previous = None;
         self.machine = None;
         self.drop_netlists();
